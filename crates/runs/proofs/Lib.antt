@@ -1,0 +1,13 @@
+pub mod Ends
+pub mod Simulation
+pub mod Lock
+pub mod Numbers
+pub mod Laid
+pub mod HasAt
+pub mod Walk
+pub mod Pieces
+pub mod Straight
+pub mod Fuel
+pub mod Words
+pub mod Whole
+pub mod Blocks

@@ -1,0 +1,12 @@
+pub mod Turn
+pub mod Runs
+pub mod Follow
+pub mod Agree
+pub mod Machine
+pub mod Joined
+pub mod Numbers
+pub mod Pieces
+pub mod Laid
+pub mod Laws
+pub mod Blocks
+pub mod Marks
