@@ -1,0 +1,53 @@
+-- What an object is: its sections, symbols and relocations (gABI, "Object Files").
+use Rattle.std.specs.Prelude.{◌≡◌, ℕ, List, [], Option, Some, None, slice_get}
+use Rattle.elf_objects.specs.declared.parts.SectionKind.{SectionKind}
+use Rattle.elf_objects.specs.declared.parts.Binding.{Binding}
+use Rattle.elf_objects.specs.declared.parts.SymbolIndex.{SymbolIndex}
+use Rattle.elf_objects.specs.declared.parts.Relocation.{Relocation}
+use Rattle.elf_objects.specs.declared.parts.Section as lent_section
+use Rattle.elf_objects.specs.declared.parts.Symbol as lent_symbol
+
+-- a section, with its bytes in the file and its relocations in the order of their tables
+pub record Section : Type 0 where
+  pub name : List ℕ
+  pub kind : SectionKind
+  pub size : ℕ
+  pub align : ℕ
+  pub content : List ℕ
+  pub relocations : List Relocation
+
+-- a symbol
+pub record Symbol : Type 0 where
+  pub name : List ℕ
+  pub binding : Binding
+  pub index : SymbolIndex
+  pub value : ℕ
+
+-- an object: sections and symbols by their numbers, and the number of the symbol table's section, 0 where there is none
+pub record Object : Type 0 where
+  pub sections : List Section
+  pub symbols : List Symbol
+  pub symbol_table : ℕ
+
+-- the relocations of a section by its number
+abbrev pub relocations_in : Option Section → List Relocation
+relocations_in None = []
+relocations_in (Some section) = section.relocations
+
+abbrev pub relocations_of : Object → ℕ → List Relocation
+relocations_of object at = relocations_in (slice_get object.sections at)
+
+-- what is lent of a section is what the section is
+pub record ShowsSection (lent : lent_section.Section) (section : Section) : Type 0 where
+  pub name : lent.name.now ≡ section.name
+  pub kind : lent.kind ≡ section.kind
+  pub size : lent.size ≡ section.size
+  pub align : lent.align ≡ section.align
+  pub content : lent.content.now ≡ section.content
+
+-- what is lent of a symbol is what the symbol is
+pub record ShowsSymbol (lent : lent_symbol.Symbol) (symbol : Symbol) : Type 0 where
+  pub name : lent.name.now ≡ symbol.name
+  pub binding : lent.binding ≡ symbol.binding
+  pub index : lent.index ≡ symbol.index
+  pub value : lent.value ≡ symbol.value
