@@ -1,0 +1,7 @@
+pub mod Numbers
+pub mod Lengths
+pub mod Skipping
+pub mod LastBlock
+pub mod Masks
+pub mod ReadBack
+pub mod Padding

@@ -1,0 +1,7 @@
+pub mod Listing
+pub mod Opcodes
+pub mod Fetch
+pub mod Spelling
+pub mod BlockList
+pub mod Offsets
+pub mod Laws

@@ -1,0 +1,92 @@
+ghost use Rattle.std.specs.Prelude.{◌≡◌, ◌+◌, ◌/◌, ◌<◌, ◌≤◌, ◌^◌, length, slice_index};
+ghost use Rattle.pvm_ops.specs.Listing.{is_marked, is_stop, skip};
+
+use std::marker::Model;
+
+/// The bytes of a code with its mask, both lent: a bit for each byte, the lowest bit of a byte first, set where an
+/// instruction starts.
+///
+/// Positions are offsets in bytes from the start of the code. The code goes on with zeros for ever, and the mask with
+/// ones.
+#[derive(Debug, Drop)]
+pub struct Code<'a> {
+    bytes: &'a [u8],
+    mask: &'a [u8],
+}
+
+impl<'a> Model for Code<'a> {
+    ghost use Rattle.std.specs.Prelude.{◌≡◌, ◌+◌, ◌/◌, ◌<◌, ◌^◌, length};
+    ghost use Rattle.pvm_ops.specs.Listing.{Listing};
+
+    ghost Value = { Listing };
+
+    ghost view = { λ c. record { bytes = c.bytes.now; mask = c.mask.now } };
+
+    ghost invariant = { λ c. (length c.mask.now ≡ (length c.bytes.now + 7) / 8) × (length c.bytes.now < 2 ^ 63) };
+}
+
+impl<'a> Code<'a> {
+    /// The code of these bytes with this mask, which has a byte for every eight of them, the last one for those left.
+    pub fn new(bytes: &'a [u8], mask: &'a [u8]) -> Code<'a>
+        requires { length mask.now ≡ (length bytes.now + 7) / 8 }
+        ensures { result ≡ record { bytes = bytes.now; mask = mask.now } }
+    {
+        Code { bytes, mask }
+    }
+
+    /// How many bytes the code has.
+    pub fn len(&self) -> u64
+        ensures value { result ≡ length self.now.bytes }
+        ensures bound { result < 2 ^ 63 }
+    {
+        self.bytes.len() as u64
+    }
+
+    /// Whether an instruction starts at a position, which is so at none past the code.
+    pub fn marked(&self, at: u64) -> bool
+        ensures { result ≡ is_marked self.now at }
+    {
+        at < self.bytes.len() as u64 && self.mask[(at / 8) as usize] >> (at % 8) & 1 == 1
+    }
+
+    /// The bytes without the mask.
+    pub fn bytes(&self) -> &'a [u8]
+        ensures { result.now ≡ self.now.bytes }
+    {
+        self.bytes
+    }
+
+    /// The byte at a position, 0 past the code.
+    pub(crate) fn byte(&self, at: usize) -> u8
+        ensures { result ≡ slice_index self.now.bytes at }
+    {
+        if at < self.bytes.len() {
+            self.bytes[at]
+        } else {
+            0
+        }
+    }
+
+    /// Whether operands before a position end there.
+    fn stops(&self, at: u64) -> bool
+        ensures { result ≡ is_stop self.now at }
+    {
+        at >= self.bytes.len() as u64 || self.mask[(at / 8) as usize] >> (at % 8) & 1 == 1
+    }
+
+    /// How many bytes of operands follow the opcode at a position, at most 24.
+    pub(crate) fn skip(&self, at: u64) -> u8
+        requires { at < length self.now.bytes }
+        ensures value { result ≡ skip self.now at }
+        ensures bound { result ≤ 24 }
+    {
+        let len = self.len();
+        prove!(at < len);
+        for run in 0..24u8 {
+            if self.stops(at + 1 + u64::from(run)) {
+                return run;
+            }
+        }
+        24
+    }
+}
