@@ -1,0 +1,6 @@
+pub mod Numbers
+pub mod Entries
+pub mod FieldLaws
+pub mod Naturals
+pub mod Programs
+pub mod Containers

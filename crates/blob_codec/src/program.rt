@@ -1,0 +1,172 @@
+ghost use Rattle.std.specs.Prelude.{◌≡◌, ◌+◌, ◌*◌, ◌/◌, ◌^◌, ◌<◌, ◌≤◌, length, slice_index, IfOk};
+ghost use Rattle.blob_codec.specs.Grammar.{IsProgram, program_bytes};
+ghost use Rattle.blob_codec.specs.Reading as reading;
+
+use crate::fault::BlobFault;
+use crate::fields::{byte_front, bytes_front, little_endian, natural_front};
+use pvm_ops::Code;
+use std::marker::Model;
+
+/// A program in its bytes, which it lends: a jump table, the width of its entries, and code with its mask (JAM Gray
+/// Paper 0.7.0, appendix A.2).
+#[derive(Debug, Drop)]
+pub struct Program<'a> {
+    table_len: u64,
+    width: u8,
+    entries: &'a [u8],
+    code: &'a [u8],
+    mask: &'a [u8],
+}
+
+impl<'a> Model for Program<'a> {
+    ghost use Rattle.blob_codec.specs.Grammar.{Program as Content};
+
+    ghost Value = { Content };
+
+    ghost use Rattle.blob_codec.specs.Lent.{content_of, IsProgramLent};
+
+    ghost view = { content_of };
+
+    ghost invariant = { IsProgramLent };
+}
+
+/// What a program begins with.
+#[derive(Clone, Copy, Debug)]
+pub struct Counts {
+    /// How many entries the jump table has.
+    pub table_len: u64,
+    /// How many bytes an entry takes.
+    pub width: u8,
+    /// How many bytes the code has.
+    pub code_len: u64,
+}
+
+impl<'a> Program<'a> {
+    /// The program that all of the bytes spell. It takes no memory and lends the bytes.
+    ///
+    /// # Errors
+    /// The first fault from left to right: in the count of the table, its width, the count of the code, the table, the
+    /// code, the mask, the bits past the code, and what is left.
+    #[tactic(auto, unfolding(crate::specs::Reading::program_of))]
+    pub fn read(bytes: &'a [u8]) -> Result<Program<'a>, BlobFault>
+        ensures exact { result ≡ reading.program_of bytes.now }
+        ensures spelled { IfOk result (λ p. IsProgram p × (bytes.now ≡ program_bytes p)) }
+    {
+        let (counts, rest) = counts_front(bytes)?;
+        let (entries, rest) = entries_front(rest, counts)?;
+        let (code, rest) = bytes_front(rest, counts.code_len)?;
+        let (mask, rest) = mask_front(rest, counts.code_len)?;
+        if !rest.is_empty() {
+            return Err(BlobFault::LeftOver);
+        }
+        Ok(Program {
+            table_len: counts.table_len,
+            width: counts.width,
+            entries,
+            code,
+            mask,
+        })
+    }
+
+    /// The code with its mask.
+    pub fn code(&self) -> Code<'a>
+        ensures { result ≡ self.now.code }
+    {
+        Code::new(self.code, self.mask)
+    }
+
+    /// How many bytes an entry of the jump table takes, at most 8.
+    pub fn width(&self) -> u8
+        ensures value { result ≡ self.now.width }
+        ensures bound { result ≤ 8 }
+    {
+        self.width
+    }
+
+    /// How many entries the jump table has.
+    #[tactic(auto, using(crate::proofs::Entries::entries))]
+    pub fn table_len(&self) -> u64
+        ensures { result ≡ length self.now.table }
+    {
+        self.table_len
+    }
+
+    /// The entry of the jump table with a number, from 0: a position in the code.
+    #[tactic(auto, using(crate::proofs::Entries::entries))]
+    pub fn table_entry(&self, at: u64) -> u64
+        requires { at < length self.now.table }
+        ensures { result ≡ slice_index self.now.table at }
+    {
+        let width = usize::from(self.width);
+        let from = at as usize * width;
+        little_endian(&self.entries[from..from + width])
+    }
+
+    /// The same program, lent once more.
+    pub(crate) fn lent_again(&self) -> Program<'a>
+        ensures { result ≡ self.now }
+    {
+        Program {
+            table_len: self.table_len,
+            width: self.width,
+            entries: self.entries,
+            code: self.code,
+            mask: self.mask,
+        }
+    }
+}
+
+/// The counts and the width off the front.
+#[tactic(auto, unfolding(crate::specs::Reading::counts_front))]
+fn counts_front(bytes: &[u8]) -> Result<(Counts, &[u8]), BlobFault>
+    ensures value { reading.Gives (λ x. (x.0, x.1.now)) result (reading.counts_front bytes.now) }
+    ensures width { IfOk result (λ x. x.0.width ≤ 8) }
+{
+    let (table_len, rest) = natural_front(bytes)?;
+    let (width, rest) = width_front(rest, table_len)?;
+    let (code_len, rest) = natural_front(rest)?;
+    let counts = Counts {
+        table_len,
+        width,
+        code_len,
+    };
+    Ok((counts, rest))
+}
+
+/// The width of the entries of a table of so many off the front.
+#[tactic(auto, unfolding(crate::specs::Reading::width_front))]
+fn width_front(bytes: &[u8], table_len: u64) -> Result<(u8, &[u8]), BlobFault>
+    ensures value { reading.Gives (λ x. (x.0, x.1.now)) result (reading.width_front table_len bytes.now) }
+    ensures bound { IfOk result (λ x. x.0 ≤ 8) }
+{
+    let (width, rest) = byte_front(bytes)?;
+    if width > 8 || (width == 0 && table_len > 0) {
+        return Err(BlobFault::BadWidth);
+    }
+    Ok((width, rest))
+}
+
+/// The bytes of a table off the front. No slice has as many bytes as a product past 2^64 says.
+fn entries_front(bytes: &[u8], counts: Counts) -> Result<(&[u8], &[u8]), BlobFault>
+    ensures value { reading.Gives (λ x. (x.0.now, x.1.now)) result (reading.bytes_front (counts.table_len * counts.width) bytes.now) }
+    ensures whole { IfOk result (λ x. length x.0.now ≡ counts.table_len * counts.width) }
+{
+    match counts.table_len.checked_mul(u64::from(counts.width)) {
+        Some(len) => bytes_front(bytes, len),
+        None => Err(BlobFault::Truncated),
+    }
+}
+
+/// The mask of so many bytes of code off the front, with no bit set past them.
+#[tactic(auto, unfolding(crate::specs::Reading::mask_front))]
+fn mask_front(bytes: &[u8], code_len: u64) -> Result<(&[u8], &[u8]), BlobFault>
+    ensures value { reading.Gives (λ x. (x.0.now, x.1.now)) result (reading.mask_front code_len bytes.now) }
+    ensures whole { IfOk result (λ x. length x.0.now ≡ (code_len + 7) / 8) }
+{
+    let (mask, rest) = bytes_front(bytes, code_len.div_ceil(8))?;
+    let last = mask.get((code_len / 8) as usize).copied().unwrap_or(0);
+    if last >> (code_len % 8) != 0 {
+        return Err(BlobFault::BadPadding);
+    }
+    Ok((mask, rest))
+}
