@@ -1,0 +1,11 @@
+//! Where the blocks of a code start: at position 0 and after each instruction that ends a block, where an instruction
+//! of a known opcode stands.
+//!
+//! `specs/Starts.antt` has the definitions.
+#![tactic(auto)]
+
+mod starts;
+#[cfg(test)]
+mod tests;
+
+pub use starts::is_start;

@@ -1,0 +1,17 @@
+//! The PVM: what instructions do, one step of the machine, and its run under gas.
+//!
+//! The machine is that of the JAM Gray Paper 0.7.0, appendix A. `specs/Effect.antt` has what instructions do, so far those
+//! of the opcodes that a link writes; `specs/Stepped.antt` has what one step leaves and answers.
+#![tactic(auto)]
+
+mod answers;
+mod instructions;
+mod laws;
+mod machine;
+mod start_state;
+#[cfg(test)]
+mod tests;
+
+pub use answers::{Exit, StartFault, Step};
+pub use laws::{effects_keep_targets, memory_stays, steps_are_turns};
+pub use machine::Machine;

@@ -1,0 +1,212 @@
+ghost use Rattle.std.specs.Prelude.{◌≡◌, ◌≤◌, ◌<◌, ◌-◌, ◌*◌, ◌^◌, ◌↔◌, false, length, IfOk, Err, MatchOption};
+ghost use Rattle.machine_state.specs.State.{register, with_register};
+ghost use Rattle.machine_state.specs.Output.{output_range};
+ghost use Rattle.blob_check.specs.Starts.{is_start};
+ghost use Rattle.pvm_machine.specs.Stepped.{Costs, IsGivenSoFar, Keeps, stepped, all_steps};
+ghost use Rattle.pvm_machine.specs.Ran.{IsRun, last_answer};
+ghost use Rattle.machine_state.specs.Start.{start_registers};
+ghost use Rattle.pvm_machine.specs.Started.{started};
+
+use crate::answers::{Exit, StartFault, Step};
+use crate::instructions::{Outcome, Registers, act};
+use crate::start_state::StartState;
+use blob_check::is_start;
+use blob_codec::{Container, Program};
+use pvm_ops::{Code, fetch};
+use std::alloc::Global;
+use std::marker::Model;
+
+/// The most bytes that an argument may have.
+const MAX_ARGUMENT: usize = 0x100_0000;
+
+/// A machine that runs the program of a container, whose bytes it lends.
+///
+/// It has thirteen registers of 64 bits (0 is ra, 1 sp, 2 to 4 t0 to t2, 5 and 6 s0 and s1, 7 to 12 a0 to a5), the
+/// position in the code at which the next instruction stands, and the gas that is left, of which each instruction
+/// costs one.
+#[derive(Debug, Drop)]
+pub struct Machine<'a> {
+    program: Program<'a>,
+    code: Code<'a>,
+    registers: Registers,
+    counter: u64,
+    gas: u64,
+    start: StartState<'a>,
+}
+
+impl<'a> Model for Machine<'a> {
+    ghost use Rattle.pvm_machine.specs.Machine.{Machine, machine_code};
+    ghost use Rattle.pvm_machine.specs.Outcomes.{with_registers};
+
+    ghost Value = { Machine };
+
+    ghost coded = { machine_code };
+
+    ghost view = { λ m. record { table = m.program.table; code = m.code; counter = m.counter; state = with_registers m.start m.registers; gas = m.gas } };
+}
+
+impl<'a> Machine<'a> {
+    /// A machine at the entry with a number, from 0, with the argument in its memory and so much gas.
+    ///
+    /// # Errors
+    /// `ArgumentTooLarge` for more than 2^24 bytes, then `BadEntry` where no block starts at position 5 `entry`.
+    pub fn start(
+        alloc: Global,
+        container: &Container<'a>,
+        entry: u32,
+        argument: &[u8],
+        gas: u64,
+    ) -> Result<Machine<'a>, StartFault>
+        ensures started { IfOk result (λ m. m ≡ started container.now entry argument.now gas) }
+        ensures argument { (result ≡ Err StartFault.ArgumentTooLarge) ↔ (2 ^ 24 < length argument.now) }
+        ensures entry { (result ≡ Err StartFault.BadEntry) ↔ ((length argument.now ≤ 2 ^ 24) × (is_start container.now.program.code (5 * entry) ≡ false)) }
+    {
+        if argument.len() > MAX_ARGUMENT {
+            return Err(StartFault::ArgumentTooLarge);
+        }
+        let program = container.program();
+        let code = program.code();
+        let counter = 5 * u64::from(entry);
+        if !is_start(&code, counter) {
+            return Err(StartFault::BadEntry);
+        }
+        Ok(Machine {
+            start: StartState::new(alloc, container, argument)?,
+            program,
+            code,
+            registers: start_registers(argument.len()),
+            counter,
+            gas,
+        })
+    }
+
+    /// Does the instruction at the counter, where there is gas for it.
+    pub fn step(&mut self) -> Step
+        ensures step { record { machine = self.new; answer = result } ≡ stepped self.old }
+        ensures costs { Costs result self.old.gas self.new.gas }
+        ensures keeps { Keeps self.old self.new }
+        ensures given { IsGivenSoFar result }
+    {
+        if self.gas == 0 {
+            return Step::OutOfGas;
+        }
+        self.gas -= 1;
+        let at = self.counter;
+        let fetched = fetch(&self.code, at);
+        match act(
+            &self.code,
+            &self.program,
+            at,
+            fetched.instr,
+            &mut self.registers,
+        ) {
+            Outcome::Next => {
+                self.counter = fetched.next;
+                Step::Next
+            }
+            Outcome::Jump(target) => {
+                self.counter = target;
+                Step::Next
+            }
+            Outcome::Halt => Step::Halt,
+            Outcome::Panic => Step::Panic,
+        }
+    }
+
+    /// Makes steps until one does not answer `Next`, and gives its answer.
+    pub fn run(&mut self) -> Exit
+        ensures steps { record { machine = self.new; answer = last_answer result } ≡ all_steps self.old }
+        ensures run { IsRun self.old self.new (last_answer result) }
+        ensures keeps { Keeps self.old self.new }
+        ensures given { IsGivenSoFar (last_answer result) }
+    {
+        loop {
+            if let Some(exit) = last(self.step()) {
+                return exit;
+            }
+        }
+    }
+
+    /// The value of a register.
+    pub fn register(&self, at: u8) -> u64
+        requires { at ≤ 12 }
+        ensures { result ≡ register self.now.state at }
+    {
+        self.registers[at as usize]
+    }
+
+    /// Sets a register.
+    pub fn set_register(&mut self, at: u8, value: u64)
+        requires { at ≤ 12 }
+        ensures { self.new ≡ record self.old { state = with_register self.old.state at value } }
+    {
+        self.registers[at as usize] = value;
+    }
+
+    /// The gas that is left.
+    pub fn gas(&self) -> u64
+        ensures { result ≡ self.now.gas }
+    {
+        self.gas
+    }
+
+    /// Takes an amount of the gas.
+    pub fn spend(&mut self, amount: u64)
+        requires { amount ≤ self.old.gas }
+        ensures { self.new ≡ record self.old { gas = self.old.gas - amount } }
+    {
+        self.gas -= amount;
+    }
+
+    /// The position of the next instruction in the code.
+    pub fn counter(&self) -> u64
+        ensures { result ≡ self.now.counter }
+    {
+        self.counter
+    }
+
+    /// Where the output stands, as its address and its length: the bytes that a0 and a1 name. There is none where a1 is
+    /// 0, where they do not end at 2^32 or before, and where one of them may not be read.
+    pub fn output_range(&self) -> Option<(u32, u32)>
+        ensures { result ≡ output_range self.now.state.registers self.now.state.memory }
+    {
+        let at = self.registers[7];
+        let len = self.registers[8];
+        if len == 0 || len > 1 << 32 || at > (1 << 32) - len {
+            return None;
+        }
+        if self.start.readable(at, len) {
+            Some((at as u32, len as u32))
+        } else {
+            None
+        }
+    }
+}
+
+/// The answer of a run whose last step has this one, and nothing for a step that is not the last.
+fn last(step: Step) -> Option<Exit>
+    ensures { MatchOption result (step ≡ Step.Next) (λ exit. step ≡ last_answer exit) }
+{
+    match step {
+        Step::Next => None,
+        Step::Halt => Some(Exit::Halt),
+        Step::Panic => Some(Exit::Panic),
+        Step::Fault(page) => Some(Exit::Fault(page)),
+        Step::OutOfGas => Some(Exit::OutOfGas),
+        Step::Host(number) => Some(Exit::Host(number)),
+        Step::Memory => Some(Exit::Memory),
+    }
+}
+
+/// The registers at a start, with an argument of so many bytes: ra has the number that halts, sp the end of the stack,
+/// and a0 and a1 the address and the length of the argument.
+fn start_registers(len: usize) -> Registers
+    ensures { result ≡ start_registers len }
+{
+    let mut registers = [0; 13];
+    registers[0] = 0xffff_0000;
+    registers[1] = 0xfefe_0000;
+    registers[7] = 0xfeff_0000;
+    registers[8] = len as u64;
+    registers
+}
