@@ -1,0 +1,4 @@
+pub mod Operations
+pub mod Step
+pub mod Listed
+pub mod Laws
