@@ -1,0 +1,89 @@
+-- The jumps of the entries: each takes as many bytes as any other, and its offset can be spelled.
+use Rattle.std.proofs.Common.{◌≡◌, ℕ, zero, suc, ◌+◌, ◌-◌, ◌*◌, ◌%◌, ◌^◌, ◌<◌, ◌≤◌, true, false, List, [], ◌∷◌, ◌++◌, length, Some, refl, arith, length-append, nat_lt, inl, inr}
+use Rattle.std.specs.Prelude.{IsTrue, slice_get}
+use Rattle.std.proofs.lemmas.Bool.{cases_lt}
+use Rattle.std.proofs.lemmas.Bool.Decides.{nat_tests}
+use Rattle.runs.specs.Joined.{joined, position}
+use Rattle.runs.proofs.HasAt.{position_first}
+use Rattle.pvm_ops.specs.declared.instr.Instr.{Instr}
+use Rattle.pvm_ops.specs.Opcodes.{is_known, form_of}
+use Rattle.pvm_ops.specs.Spelling.{spelling, IsEncodable, FitsBytes}
+use Rattle.pvm_ops.specs.BlockList.{BlockList}
+use Rattle.jump_table.specs.Assembly.{offset_len, entry_len, jump, spelled, start_of, offset, entry_jumps}
+
+-- numbers near 0, from above and from below, are the sign extensions of their low four bytes
+low_fits : (v : ℕ) → v < 2 ^ 31 → FitsBytes offset_len v
+low_fits v h =
+    let low : v % 2 ^ 32 ≡ v = omega arith in
+    let small : nat_lt v (2 ^ 31) ≡ true = grind (arith, nat_tests) in
+    rw (low, small) refl
+
+high_fits : (v : ℕ) → 2 ^ 64 - 2 ^ 31 ≤ v → v < 2 ^ 64 → FitsBytes offset_len v
+high_fits v h k =
+    let large : nat_lt (v % 2 ^ 32) (2 ^ 31) ≡ false = (let half : 2 ^ 31 ≤ v % 2 ^ 32 = omega arith in grind (arith, nat_tests)) in
+    rw large (omega arith)
+
+-- and so is the offset between two positions below 2^31
+pub offset_fits : (from to : ℕ) → from < 2 ^ 31 → to < 2 ^ 31 → FitsBytes offset_len (offset from to)
+offset_fits from to h k =
+    elim (cases_lt to from) [
+      | inl back ↦ high_fits (offset from to) (omega arith) (omega arith)
+      | inr on ↦ low_fits (offset from to) (omega arith)
+    ]
+
+-- a jump whose offset fits can be spelled
+pub jump_encodable : (x : ℕ) → FitsBytes offset_len x → IsEncodable (jump x) offset_len
+unfolding form_of
+jump_encodable x fits = record { a = omega arith; b = omega arith; d = omega arith; offset = omega arith; unused = refl; fit = fits }
+
+-- its opcode is known
+pub jump_known : IsTrue (is_known 40)
+unfolding is_known
+jump_known = refl
+
+-- the bytes of a jump
+length-jump : (x : ℕ) → length (spelling (jump x) offset_len) ≡ entry_len
+unfolding spelling form_of
+length-jump x = refl
+
+-- a jump for each entry, with the offset to its block
+pub entry_jump : (list : BlockList) (at : ℕ) (entries : List ℕ) (rest : List Instr) (entry block : ℕ) → slice_get entries entry ≡ Some block → slice_get (entry_jumps list at entries ++ rest) entry ≡ Some (jump (offset (at + entry_len * entry) (start_of list block)))
+entry_jump list at [] rest entry block e = absurd cc
+entry_jump list at (b ∷ bs) rest zero block e =
+    let same : b ≡ block = cc in
+    let here : at + entry_len * 0 ≡ at = omega arith in
+    rw (same, here) refl
+entry_jump list at (b ∷ bs) rest (suc entry) block e =
+    let there : at + entry_len * suc entry ≡ at + entry_len + entry_len * entry = omega arith in
+    rw there (entry_jump list (at + entry_len) bs rest entry block e)
+
+-- where an entry's jump stands
+pub entry_position : (list : BlockList) (at : ℕ) (entries : List ℕ) (rest : List Instr) (entry : ℕ) → entry ≤ length entries → position (spelled (entry_jumps list at entries ++ rest)) entry ≡ entry_len * entry
+entry_position list at entries rest zero le = position_first (spelled (entry_jumps list at entries ++ rest))
+entry_position list at [] rest (suc entry) le = absurd (omega arith)
+entry_position list at (b ∷ bs) rest (suc entry) le =
+    let r = entry_position list (at + entry_len) bs rest entry (omega arith) in
+    omega (arith, length-jump (offset at (start_of list b)))
+
+-- what stands behind the jumps
+pub behind_get : (list : BlockList) (at : ℕ) (entries : List ℕ) (rest : List Instr) (q : ℕ) → slice_get (entry_jumps list at entries ++ rest) (length entries + q) ≡ slice_get rest q
+behind_get list at [] rest q = let n : 0 + q ≡ q = omega arith in rw n refl
+behind_get list at (b ∷ bs) rest q =
+    let n : suc (length bs) + q ≡ suc (length bs + q) = omega arith in
+    rw n (behind_get list (at + entry_len) bs rest q)
+
+-- and where
+pub behind_position : (list : BlockList) (at : ℕ) (entries : List ℕ) (rest : List Instr) (q : ℕ) → position (spelled (entry_jumps list at entries ++ rest)) (length entries + q) ≡ entry_len * length entries + position (spelled rest) q
+behind_position list at [] rest q = let n : 0 + q ≡ q = omega arith in rw n (omega arith)
+behind_position list at (b ∷ bs) rest q =
+    let n : suc (length bs) + q ≡ suc (length bs + q) = omega arith in
+    let r = behind_position list (at + entry_len) bs rest q in
+    rw n (omega (arith, length-jump (offset at (start_of list b))))
+
+-- the length of it all
+pub length-behind : (list : BlockList) (at : ℕ) (entries : List ℕ) (rest : List Instr) → length (joined (spelled (entry_jumps list at entries ++ rest))) ≡ entry_len * length entries + length (joined (spelled rest))
+length-behind list at [] rest = omega arith
+length-behind list at (b ∷ bs) rest =
+    let r = length-behind list (at + entry_len) bs rest in
+    let x = offset at (start_of list b) in
+    omega (arith, length-jump x, length-append (spelling (jump x) offset_len) (joined (spelled (entry_jumps list (at + entry_len) bs ++ rest))))

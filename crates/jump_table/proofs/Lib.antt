@@ -1,0 +1,6 @@
+pub mod Written
+pub mod Spelled
+pub mod Entries
+pub mod Blocks
+pub mod Starting
+pub mod Placed

@@ -1,0 +1,9 @@
+pub mod Lists
+pub mod Built
+pub mod Effects
+pub mod Instructions
+pub mod Same
+pub mod Plain
+pub mod Begin
+pub mod Carried
+pub mod Aims

@@ -1,0 +1,4 @@
+pub mod Instructions
+pub mod Lowering
+pub mod Cutting
+pub mod Laws
