@@ -1,0 +1,2 @@
+pub mod CodeLock
+pub mod Agreement

@@ -1,0 +1,9 @@
+-- The law of the link that contracts name.
+use Rattle.symbols.specs.Wanted.{Given}
+use Rattle.blob_codec.specs.Grammar.{Container}
+use Rattle.link_core.specs.Agrees.{Agrees}
+use Rattle.link_core.specs.Linked.{IsLinked}
+
+-- what is linked agrees
+abbrev pub LinkedAgrees : Type 0
+LinkedAgrees = (given : Given) (c : Container) → IsLinked given c → Agrees given c

@@ -1,0 +1,4 @@
+pub mod Runs
+pub mod Agrees
+pub mod Linked
+pub mod Laws

@@ -1,0 +1,33 @@
+-- What a linked program is.
+use Rattle.std.specs.Prelude.{◌≡◌, ℕ, ◌≤◌, ◌^◌, List, [], length}
+use Rattle.symbols.specs.Wanted.{Given}
+use Rattle.lift_blocks.specs.Listed.{Lifted, IsLifted}
+use Rattle.lower.specs.Lowering.{lowered_blocks}
+use Rattle.pvm_ops.specs.BlockList.{BlockList}
+use Rattle.jump_table.specs.Assembly.{code_of, table_of, width_of}
+use Rattle.blob_codec.specs.Grammar.{Program, Container, IsContainer, container_bytes}
+use Rattle.link_core.specs.Agrees.{Agrees}
+
+-- the program of a list of blocks
+abbrev pub program_of : BlockList → Program
+program_of list = record { table = table_of list; width = width_of (table_of list); code = code_of list }
+
+-- the container of the operations in code order: so far there are no data
+abbrev pub container_of : Given → Lifted → Container
+container_of given lifted = record { read_only = []; writable = []; zero_pages = 0; stack = given.wanted.stack; program = program_of (lowered_blocks lifted) }
+
+-- The container is that of the objects' operations: they in code order, cut into blocks, lowered and placed. So it is
+-- determined by what the link was given.
+pub record IsLinked (given : Given) (c : Container) : Type 0 where
+  pub lifted : Lifted
+  pub is_lifted : IsLifted given lifted
+  pub container_is : c ≡ container_of given lifted
+  pub fits : IsContainer c
+  pub small : length c.program.code.bytes ≤ 2 ^ 25
+
+-- these bytes are the linked program's container, and it means what the objects mean
+pub record HoldsLinked (given : Given) (bytes : List ℕ) : Type 0 where
+  pub container : Container
+  pub spelled : bytes ≡ container_bytes container
+  pub linked : IsLinked given container
+  pub agrees : Agrees given container
