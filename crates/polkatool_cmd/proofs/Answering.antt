@@ -1,0 +1,68 @@
+-- What reads, writes and puts make of a command.
+use Rattle.std.proofs.Common.{◌≡◌, ℕ, zero, suc, ◌+◌, ◌-◌, ◌^◌, ◌<◌, List, [], ◌∷◌, length, Option, Some, None, Ok, Err, refl, ap, ◌∙◌, subst, inr, arith}
+use Rattle.std.proofs.lemmas.Bool.{lt-ltb}
+use Rattle.outside.specs.Outside.{Files, AnswersRead, AnswersWrite as Holds}
+use Rattle.outside.specs.declared.folder.ReadFault.{ReadFault}
+use Rattle.outside.specs.declared.folder.ReadFault.TheVariants.{TooLarge}
+use Rattle.elf_objects.specs.declared.fault.Fault.{Fault}
+use Rattle.runs.specs.Runs.{Paid}
+use Rattle.machine_state.specs.Ends.{Event, End}
+use Rattle.pvm_machine.specs.Machine.{Machine}
+use Rattle.pvm_machine.specs.Stepped.{IsGivenSoFar}
+use Rattle.pvm_machine.specs.Ran.{IsRun, last_answer, run_of}
+use Rattle.pvm_machine.specs.declared.answers.Exit.{Exit}
+use Rattle.pvm_machine.specs.declared.answers.Exit.TheVariants as exit
+use Rattle.polkatool_cmd.specs.declared.answer.Answer.{Answer}
+use Rattle.polkatool_cmd.specs.declared.answer.Answer.TheVariants as answers
+use Rattle.polkatool_cmd.specs.Faults.{first_fault, too_large}
+use Rattle.polkatool_cmd.specs.RunFaults.{first_run_fault}
+use Rattle.polkatool_cmd.specs.Answers.{World, HasFault, HoldsRun, RunComesTo}
+use Rattle.polkatool_cmd.specs.Running.{Tells, end_of}
+
+long_file : (n : ℕ) → (file : List ℕ) × (length file ≡ n)
+long_file zero = ([], refl)
+long_file (suc n) = let rest = long_file n in (0 ∷ rest.0, omega (arith, rest.1))
+
+-- an object's file that is too large for its read has that fault
+pub first_fault-long : (file : List ℕ) → 2 ^ 24 < length file → first_fault file ≡ Some too_large
+first_fault-long file long = rw (lt-ltb (2 ^ 24) (length file) long) refl
+
+-- and so has a blob's
+pub first_run_fault-long : (file : List ℕ) → 2 ^ 27 < length file → first_run_fault file ≡ Some too_large
+first_run_fault-long file long = rw (lt-ltb (2 ^ 27) (length file) long) refl
+
+read_too_large : (first_of : List ℕ → Option Fault) (limit : ℕ) → ((file : List ℕ) → limit < length file → first_of file ≡ Some too_large) → (files : Option Files) (name : List ℕ) → AnswersRead files name limit (Err TooLarge) → HasFault first_of files name (Some too_large)
+read_too_large first_of limit is_first None name answer =
+    let long = long_file (limit + 1) in
+    record { file = long.0; held = tt; first = is_first long.0 (omega (arith, long.1)) }
+read_too_large first_of limit is_first (Some files) name answer = record { file = answer.0; held = answer.1; first = is_first answer.0 answer.2 }
+
+-- a file that is too large for its read has the fault of such files
+pub HasFault-too_large : (first_of : List ℕ → Option Fault) (limit : ℕ) → ((file : List ℕ) → limit < length file → first_of file ≡ Some too_large) → (files : Option Files) (name : List ℕ) (fault : ReadFault) → fault ≡ TooLarge → AnswersRead files name limit (Err fault) → HasFault first_of files name (Some too_large)
+HasFault-too_large first_of limit is_first files name fault is answer =
+    let P : ReadFault → Type 0 = λ f. AnswersRead files name limit (Err f) in
+    read_too_large first_of limit is_first files name (subst P is answer)
+
+-- what a name is read to hold it holds
+pub held-read : (files : Option Files) (name : List ℕ) (limit : ℕ) (bytes : List ℕ) → AnswersRead files name limit (Ok bytes) → Holds files name bytes
+held-read None name limit bytes answer = tt
+held-read (Some files) name limit bytes answer = answer.0
+
+-- a run whose transcript was told on out, with nothing else changed, is what the run comes to
+pub RunComesTo-told : (gas : ℕ) (blob : List ℕ) (run : Paid Event End) (answer : Answer) (old new : World) → HoldsRun old.files gas blob run → Tells run answer (record { text = old.out; puts = old.puts }) (record { text = new.out; puts = new.puts }) → new ≡ record old { out = new.out; puts = new.puts } → RunComesTo gas blob answer old new
+RunComesTo-told gas blob run answers.Done old new holds told others = record { run = run; is_run = holds; ended = told.ended; told = told.told; others = others ∙ ap (λ puts. record old { out = new.out; puts = puts }) told.puts }
+RunComesTo-told gas blob run answers.Panicked old new holds told others = record { run = run; is_run = holds; ended = told.ended; told = told.told; others = others ∙ ap (λ puts. record old { out = new.out; puts = puts }) told.puts }
+RunComesTo-told gas blob run answers.OutOfGas old new holds told others = record { run = run; is_run = holds; ended = told.ended; told = told.told; others = others ∙ ap (λ puts. record old { out = new.out; puts = puts }) told.puts }
+RunComesTo-told gas blob run (answers.Refused fault) old new holds told others = absurd told
+RunComesTo-told gas blob run answers.Usage old new holds told others = absurd told
+RunComesTo-told gas blob run answers.FileFault old new holds told others = inr (record { run = run; is_run = holds; told = told.told; cause = told.cause; others = others })
+RunComesTo-told gas blob run answers.Memory old new holds told others = absurd told
+
+-- what a run came to, where its answer is one that is given so far
+pub run_of-exit : (old new : Machine) (e : Exit) → IsRun old new (last_answer e) → IsGivenSoFar (last_answer e) → run_of old ≡ record { events = []; end = end_of e new.state; left = new.gas; begun = old.gas - new.gas }
+run_of-exit old new exit.Halt run given = run
+run_of-exit old new exit.Panic run given = run
+run_of-exit old new (exit.Fault address) run given = absurd given
+run_of-exit old new exit.OutOfGas run given = run
+run_of-exit old new (exit.Host number) run given = absurd given
+run_of-exit old new exit.Memory run given = absurd given

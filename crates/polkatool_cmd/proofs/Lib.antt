@@ -1,0 +1,20 @@
+mod Names
+mod Digits
+mod Fronts
+mod Opcodes
+mod Zeros
+mod Packing
+mod Placing
+mod Containers
+mod Objects
+mod Answering
+pub mod StraightWords
+pub mod StraightOrder
+pub mod StraightBlocks
+pub mod StraightPlaced
+pub mod StraightEmitted
+pub mod StraightLifted
+pub mod StraightText
+pub mod StraightShort
+pub mod StraightFits
+pub mod StraightLinked

@@ -1,0 +1,11 @@
+pub mod Straight
+pub mod Assembling
+pub mod Commands
+pub mod LinkFaults
+pub mod Faults
+pub mod Statuses
+pub mod Lines
+pub mod RunFaults
+pub mod Transcript
+pub mod Answers
+pub mod Running

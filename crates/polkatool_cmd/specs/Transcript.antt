@@ -1,0 +1,45 @@
+-- The transcript of a run: a line for each host call, one for the end, and one for the gas that is left.
+use Rattle.std.specs.Prelude.{ℕ, zero, suc, ◌/◌, ◌%◌, List, [], ◌∷◌, ◌++◌, Option, Some, None, codes}
+use Rattle.std.specs.Char.{digit_char}
+use Rattle.std.specs.List.{flat_map}
+use Rattle.runs.specs.Runs.{Paid}
+use Rattle.machine_state.specs.Ends.{Event, End, Halt, Panic, Fault, Unanswered, BadReply}
+use Rattle.machine_state.specs.Output.{output}
+use Rattle.polkatool_cmd.specs.Lines.{field}
+
+-- bytes in lower-case hexadecimal, two digits each
+abbrev pub byte_digits : ℕ → List ℕ
+byte_digits byte = digit_char (byte / 16) ∷ digit_char (byte % 16) ∷ []
+
+abbrev pub hex : List ℕ → List ℕ
+hex bytes = flat_map byte_digits bytes
+
+-- the lowest hexadecimal digits of a number, so many of them, the highest first
+abbrev pub hex_digits : ℕ → ℕ → List ℕ
+hex_digits zero n = []
+hex_digits (suc count) n = hex_digits count (n / 16) ++ digit_char (n % 16) ∷ []
+
+-- the line of a host call: its number, and the registers in sixteen digits each
+unfoldable pub event_line : Event → List ℕ
+event_line e = field (codes "call ") e.number ++ flat_map (λ value. codes " " ++ hex_digits 16 value) e.registers ++ codes "\n"
+
+-- the address of a page fault, in eight digits
+abbrev pub address_field : ℕ → List ℕ
+address_field address = codes " address=" ++ hex_digits 8 address
+
+-- the line of an end; no end is that of gas
+unfoldable pub end_line : Option End → List ℕ
+end_line None = codes "out-of-gas\n"
+end_line (Some (Halt registers memory)) = codes "halt output=" ++ hex (output registers memory) ++ codes "\n"
+end_line (Some (Panic memory)) = codes "panic\n"
+end_line (Some (Fault address memory)) = codes "fault" ++ address_field address ++ codes "\n"
+end_line (Some (Unanswered number memory)) = field (codes "unanswered call=") number ++ codes "\n"
+end_line (Some (BadReply line address memory)) = field (codes "bad-reply line=") line ++ address_field address ++ codes "\n"
+
+-- the line of the gas that is left
+abbrev pub gas_line : ℕ → List ℕ
+gas_line left = field (codes "gas left=") left ++ codes "\n"
+
+-- the lines of a run under gas
+abbrev pub transcript : Paid Event End → List ℕ
+transcript run = flat_map event_line run.events ++ (end_line run.end ++ gas_line run.left)

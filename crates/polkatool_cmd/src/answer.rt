@@ -1,0 +1,20 @@
+use elf_objects::Fault;
+
+/// What a command came to.
+#[derive(Clone, Copy, Debug, PartialEq, Eq)]
+pub(crate) enum Answer {
+    /// The work is done.
+    Done,
+    /// The program panicked, and its run was told.
+    Panicked,
+    /// The program used up its gas, and its run was told.
+    OutOfGas,
+    /// The file has this fault.
+    Refused(Fault),
+    /// The words are a faulty command line.
+    Usage,
+    /// A call outside failed, or a file is missing.
+    FileFault,
+    /// Memory was refused.
+    Memory,
+}

@@ -1,0 +1,20 @@
+/// A command with its values.
+#[derive(Clone, Copy)]
+pub(crate) enum Command<'a> {
+    Link(LinkCommand<'a>),
+    Run(RunCommand<'a>),
+}
+
+/// The link of one object into an output, by the names of their files.
+#[derive(Clone, Copy)]
+pub(crate) struct LinkCommand<'a> {
+    pub output: &'a str,
+    pub object: &'a str,
+}
+
+/// The run of a program with so much gas, by the name of its file.
+#[derive(Clone, Copy)]
+pub(crate) struct RunCommand<'a> {
+    pub gas: u64,
+    pub blob: &'a str,
+}

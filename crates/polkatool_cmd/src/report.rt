@@ -1,0 +1,102 @@
+//! How an answer is told: by its status and a line on err.
+
+ghost use Rattle.std.specs.Prelude.{◌≡◌, ◌+◌, ◌≤◌, ◌++◌, length};
+ghost use Rattle.arrayvec.specs.ArrayString.{array_string_len};
+ghost use Rattle.polkatool_cmd.specs.Lines.{name_of, field, refused_line as refused_line_of};
+ghost use Rattle.polkatool_cmd.specs.Answers.{Puts, Reports};
+
+use crate::answer::Answer;
+use crate::status::Status;
+use arrayvec::ArrayString;
+use elf_objects::Fault;
+use itoa::Buffer;
+use outside::Sink;
+
+/// The code of a program at whose entry no block starts.
+pub(crate) const BAD_ENTRY: u8 = 47;
+
+/// The code of a file with too many bytes.
+pub(crate) const FILE_TOO_LARGE: u8 = 61;
+
+const USAGE: &str = "polkatool: bad command line\n";
+
+const FILE_FAULT: &str = "polkatool: file fault\n";
+
+const OUT_OF_MEMORY: &str = "polkatool: out of memory\n";
+
+/// Room for the longest line.
+pub(crate) const LINE_LEN: usize = 256;
+
+/// Room for the digits of a number.
+const NUMBER_LEN: usize = 40;
+
+/// Puts on err that memory was refused: for a caller that has no memory for the words. It takes no memory.
+pub fn out_of_memory<E: Sink>(err: &mut E) -> Status
+    ensures { Reports Answer.Memory result (record { text = E.bytes err.old; puts = E.faults err.old }) (record { text = E.bytes err.new; puts = E.faults err.new }) }
+{
+    report(Answer::Memory, err)
+}
+
+/// Puts the line of an answer on err, if it has one. It takes no memory.
+pub(crate) fn report<E: Sink>(answer: Answer, err: &mut E) -> Status
+    ensures { Reports answer result (record { text = E.bytes err.old; puts = E.faults err.old }) (record { text = E.bytes err.new; puts = E.faults err.new }) }
+{
+    match answer {
+        Answer::Done => Status::Done,
+        Answer::Panicked => Status::Panicked,
+        Answer::OutOfGas => Status::OutOfGas,
+        Answer::Refused(fault) => put_line(refused_line(&fault).as_str(), Status::Refused, err),
+        Answer::Usage => put_line(USAGE, Status::Usage, err),
+        Answer::FileFault => put_line(FILE_FAULT, Status::FileFault, err),
+        Answer::Memory => put_line(OUT_OF_MEMORY, Status::Memory, err),
+    }
+}
+
+/// Puts a line, and answers the status where it was put.
+fn put_line<E: Sink>(line: &str, status: Status, err: &mut E) -> Status
+    ensures { Puts line.now status result (record { text = E.bytes err.old; puts = E.faults err.old }) (record { text = E.bytes err.new; puts = E.faults err.new }) }
+{
+    match err.put(line.as_bytes()) {
+        Ok(()) => status,
+        Err(_) => Status::FileFault,
+    }
+}
+
+/// The line of a refusal, which is kept on the stack.
+#[tactic(auto, unfolding(crate::specs::Lines::refused_line))]
+fn refused_line(fault: &Fault) -> ArrayString<LINE_LEN>
+    ensures { result.bytes ≡ refused_line_of fault.now }
+{
+    let mut line = ArrayString::new();
+    push_field("refused ", u64::from(fault.code), &mut line);
+    line.push_str(" ");
+    line.push_str(fault_name(fault.code));
+    push_field(" object=", u64::from(fault.object), &mut line);
+    push_field(" section=", u64::from(fault.section), &mut line);
+    push_field(" offset=", fault.offset, &mut line);
+    line.push_str("\n");
+    line
+}
+
+/// Adds a label and a number in decimal to a line.
+pub(crate) fn push_field(label: &str, number: u64, line: &mut ArrayString<LINE_LEN>)
+    requires { array_string_len line.old + length label.now + NUMBER_LEN ≤ LINE_LEN }
+    ensures text { line.new.bytes ≡ line.old.bytes ++ field label.now number }
+    ensures len { array_string_len line.new ≤ array_string_len line.old + length label.now + NUMBER_LEN }
+{
+    let mut digits = Buffer::new();
+    line.push_str(label);
+    line.push_str(digits.format(number));
+}
+
+/// The name of a fault's code.
+fn fault_name(code: u8) -> &'static str
+    ensures name { result.now ≡ name_of code }
+    ensures short { length result.now ≤ 12 }
+{
+    match code {
+        BAD_ENTRY => "BadEntry",
+        FILE_TOO_LARGE => "FileTooLarge",
+        _ => "NotBuilt",
+    }
+}

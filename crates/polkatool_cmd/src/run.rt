@@ -1,0 +1,236 @@
+//! From the bytes of a container to the transcript of its run.
+
+ghost use Rattle.std.specs.Prelude.{◌≡◌, ◌*◌, ◌^◌, ◌≤◌, ◌<◌, ◌++◌, Some, true, length, slice_index, IfOk, OnOk, OnErr, MatchResult, codes, replicate, ℕ};
+ghost use Rattle.std.specs.Io.KnownBytes.{Appends};
+ghost use Rattle.outside.specs.Outside.{AppendsFront, HasCause};
+ghost use Rattle.pvm_ops.specs.Listing.{is_marked};
+ghost use Rattle.machine_state.specs.Output.{bytes_at};
+ghost use Rattle.pvm_machine.specs.Stepped.{IsGivenSoFar};
+ghost use Rattle.pvm_machine.specs.Ran.{last_answer, run_of};
+ghost use Rattle.polkatool_cmd.specs.Commands.{Run};
+ghost use Rattle.polkatool_cmd.specs.RunFaults.{is_built, is_other, has_no_other, is_runnable};
+ghost use Rattle.polkatool_cmd.specs.Transcript.{end_line, gas_line};
+ghost use Rattle.polkatool_cmd.specs.Statuses.{status_of};
+ghost use Rattle.polkatool_cmd.specs.Answers.{ComesTo};
+ghost use Rattle.polkatool_cmd.specs.Running.{Starts, FailsToStart, Tells, EndsAs, IsZero, end_of, output_len};
+
+use crate::answer::Answer;
+use crate::commands::RunCommand;
+use crate::report::{BAD_ENTRY, FILE_TOO_LARGE, LINE_LEN, push_field};
+use arrayvec::ArrayString;
+use blob_codec::Container;
+use elf_objects::{Fault, NOT_BUILT};
+use machine_state::empty_start_is_zero;
+use outside::{Failed, Folder, ReadFault, Sink};
+use pvm_machine::{Exit, Machine, StartFault, memory_stays};
+use pvm_ops::Code;
+use std::alloc::Global;
+
+/// The most bytes of a blob's file, 2^27.
+const BLOB_LIMIT: u32 = 1 << 27;
+
+/// How many digits of a long output are put at once.
+const PIECE_LEN: usize = 256;
+
+/// Why the program of a file isn't run.
+#[derive(Clone, Copy, Debug, PartialEq, Eq)]
+enum RunFault {
+    /// The file is no container that is run so far.
+    NotBuilt,
+    /// No block starts at position 0.
+    BadEntry,
+    /// Memory was refused.
+    Memory,
+}
+
+/// Runs the program of one file, and puts the transcript of its run.
+pub(crate) fn run<F: Folder, O: Sink>(
+    alloc: Global,
+    command: &RunCommand<'_>,
+    files: &mut F,
+    out: &mut O,
+) -> Answer
+    ensures comes { ComesTo (Some (Run command.now.gas command.now.blob.now)) result
+        (record { files = F.files files.old; reads = F.read_faults files.old; writes = F.write_faults files.old; out = O.bytes out.old; puts = O.faults out.old })
+        (record { files = F.files files.new; reads = F.read_faults files.new; writes = F.write_faults files.new; out = O.bytes out.new; puts = O.faults out.new }) }
+    ensures files { F.files files.new ≡ F.files files.old }
+{
+    let file = match files.read(alloc, command.blob, BLOB_LIMIT) {
+        Ok(file) => file,
+        Err(ReadFault::Failed) => return Answer::FileFault,
+        Err(ReadFault::TooLarge) => return refused(FILE_TOO_LARGE),
+        Err(ReadFault::Memory) => return Answer::Memory,
+    };
+    match start(alloc, file.as_slice(), command.gas) {
+        Ok(mut machine) => finish(&mut machine, out),
+        Err(RunFault::NotBuilt) => refused(NOT_BUILT),
+        Err(RunFault::BadEntry) => refused(BAD_ENTRY),
+        Err(RunFault::Memory) => Answer::Memory,
+    }
+}
+
+/// A refusal that names no place of a file.
+fn refused(code: u8) -> Answer
+    ensures { result ≡ Answer.Refused (record { code = code; object = 0; section = 0; offset = 0 }) }
+{
+    Answer::Refused(Fault {
+        code,
+        object: 0,
+        section: 0,
+        offset: 0,
+    })
+}
+
+/// The machine at entry 0 of the container that a file of at most 2^27 bytes is, without an argument.
+fn start(alloc: Global, file: &[u8], gas: u64) -> Result<Machine<'_>, RunFault>
+    requires { length file.now ≤ 2 ^ 27 }
+    ensures starts { MatchResult result (Starts file.now gas) (FailsToStart file.now) }
+    ensures zero { IfOk result (λ m. IsZero m.state.memory) }
+{
+    empty_start_is_zero();
+    let Ok(container) = Container::read(file) else {
+        return Err(RunFault::NotBuilt);
+    };
+    if !is_runnable(&container) {
+        return Err(RunFault::NotBuilt);
+    }
+    match Machine::start(alloc, &container, 0, &[], gas) {
+        Ok(machine) => Ok(machine),
+        Err(StartFault::Memory) => Err(RunFault::Memory),
+        Err(StartFault::BadEntry) => Err(RunFault::BadEntry),
+        Err(StartFault::ArgumentTooLarge) => unreachable!(),
+    }
+}
+
+/// Whether a container is one that is run so far.
+fn is_runnable(container: &Container<'_>) -> bool
+    ensures { result ≡ is_runnable container.now }
+{
+    let program = container.program();
+    container.read_only().is_empty()
+        && container.writable().is_empty()
+        && container.zero_pages() == 0
+        && program.table_len() == 0
+        && has_no_other(&program.code())
+}
+
+/// Whether each marked position of a code has an opcode that is run so far.
+fn has_no_other(code: &Code<'_>) -> bool
+    ensures { result ≡ has_no_other code.now }
+{
+    for at in 0..code.bytes().len() {
+        if is_other(code, at) {
+            return false;
+        }
+    }
+    true
+}
+
+/// Whether an opcode that isn't run so far is marked at a position.
+fn is_other(code: &Code<'_>, at: usize) -> bool
+    ensures { result ≡ is_other code.now at }
+{
+    code.marked(at as u64) && !is_built(code.bytes()[at])
+}
+
+/// Whether instructions of the opcode are run so far.
+fn is_built(op: u8) -> bool
+    ensures { result ≡ is_built op }
+{
+    matches!(op, 0 | 1 | 40 | 50 | 51 | 100 | 149)
+}
+
+/// Runs a machine to its end, and puts the transcript.
+fn finish<O: Sink>(machine: &mut Machine<'_>, out: &mut O) -> Answer
+    requires { IsZero machine.old.state.memory }
+    ensures { Tells (run_of machine.old) result (record { text = O.bytes out.old; puts = O.faults out.old }) (record { text = O.bytes out.new; puts = O.faults out.new }) }
+{
+    memory_stays();
+    let exit = machine.run();
+    let answer = match put_end(machine, exit, out) {
+        Ok(answer) => answer,
+        Err(_) => return Answer::FileFault,
+    };
+    match put_gas(machine.gas(), out) {
+        Ok(()) => answer,
+        Err(_) => Answer::FileFault,
+    }
+}
+
+/// Puts the line of an end.
+#[tactic(auto, unfolding(crate::specs::Transcript::end_line))]
+fn put_end<O: Sink>(machine: &Machine<'_>, exit: Exit, out: &mut O) -> Result<Answer, Failed>
+    requires zero { IsZero machine.now.state.memory }
+    requires given { IsGivenSoFar (last_answer exit) }
+    ensures ends { IfOk result (λ answer. EndsAs answer (status_of (end_of exit machine.now.state))) }
+    ensures ok { OnOk result (Appends (O.bytes out.old) (O.bytes out.new) (end_line (end_of exit machine.now.state))) }
+    ensures err { OnErr result (AppendsFront (O.bytes out.old) (O.bytes out.new) (end_line (end_of exit machine.now.state))) }
+    ensures cause { HasCause (O.faults out.old) (O.faults out.new) result }
+{
+    match exit {
+        Exit::Halt => {
+            put_halt(output_len(machine.output_range()), out)?;
+            Ok(Answer::Done)
+        }
+        Exit::Panic => {
+            out.put(b"panic\n")?;
+            Ok(Answer::Panicked)
+        }
+        Exit::OutOfGas => {
+            out.put(b"out-of-gas\n")?;
+            Ok(Answer::OutOfGas)
+        }
+        Exit::Fault(_) | Exit::Host(_) | Exit::Memory => unreachable!(),
+    }
+}
+
+/// How many bytes the output in a range has.
+fn output_len(range: Option<(u32, u32)>) -> u32
+    ensures { result ≡ output_len range }
+{
+    match range {
+        Some((_, len)) => len,
+        None => 0,
+    }
+}
+
+/// Puts the line of a halt with an output of so many bytes, which are zero, as nothing is written to memory so far.
+fn put_halt<O: Sink>(len: u32, out: &mut O) -> Result<(), Failed>
+    ensures ok { OnOk result (Appends (O.bytes out.old) (O.bytes out.new) (codes "halt output=" ++ replicate (2 * len) 48 ++ codes "\n")) }
+    ensures err { OnErr result (AppendsFront (O.bytes out.old) (O.bytes out.new) (codes "halt output=" ++ replicate (2 * len) 48 ++ codes "\n")) }
+    ensures cause { HasCause (O.faults out.old) (O.faults out.new) result }
+{
+    out.put(b"halt output=")?;
+    put_zeros(2 * u64::from(len), &[b'0'; PIECE_LEN], out)?;
+    out.put(b"\n")?;
+    Ok(())
+}
+
+/// Puts so many zero digits, by pieces of the digits that are given.
+fn put_zeros<O: Sink>(count: u64, zeros: &[u8], out: &mut O) -> Result<(), Failed>
+    requires some { 0 < length zeros.now }
+    requires zeros { zeros.now ≡ replicate (length zeros.now) 48 }
+    ensures ok { OnOk result (Appends (O.bytes out.old) (O.bytes out.new) (replicate count 48)) }
+    ensures err { OnErr result (AppendsFront (O.bytes out.old) (O.bytes out.new) (replicate count 48)) }
+    ensures cause { HasCause (O.faults out.old) (O.faults out.new) result }
+{
+    let mut done = 0u64;
+    while done < count {
+        let len = (count - done).min(zeros.len() as u64);
+        out.put(&zeros[..len as usize])?;
+        done += len;
+    }
+    Ok(())
+}
+
+/// Puts the line of the gas that is left.
+fn put_gas<O: Sink>(gas: u64, out: &mut O) -> Result<(), Failed>
+    ensures ok { OnOk result (Appends (O.bytes out.old) (O.bytes out.new) (gas_line gas)) }
+    ensures err { OnErr result (AppendsFront (O.bytes out.old) (O.bytes out.new) (gas_line gas)) }
+    ensures cause { HasCause (O.faults out.old) (O.faults out.new) result }
+{
+    let mut line = ArrayString::new();
+    push_field("gas left=", gas, &mut line);
+    line.push_str("\n");
+    out.put(line.as_bytes())
+}

@@ -1,0 +1,36 @@
+ghost use Rattle.std.specs.Prelude.{◌≡◌};
+ghost use Rattle.polkatool_cmd.specs.Statuses.{number_of};
+
+/// How a command ended.
+#[derive(Clone, Copy, Debug, PartialEq, Eq)]
+pub enum Status {
+    /// The work is done.
+    Done,
+    /// The object has a fault. The line on err says which, and where.
+    Refused,
+    /// The words are a faulty command line.
+    Usage,
+    /// A call outside failed, or a file is missing.
+    FileFault,
+    /// The program panicked.
+    Panicked,
+    /// The program met a page fault.
+    Faulted,
+    /// The program used up its gas.
+    OutOfGas,
+    /// The program made a host call for which no reply was left.
+    Unanswered,
+    /// A reply was to be written where the program can't write.
+    BadReply,
+    /// Memory was refused.
+    Memory,
+}
+
+impl Status {
+    /// The exit status of the process: 0 for `Done`, and so on in the order of the variants.
+    pub fn number(self) -> u8
+        ensures { result ≡ number_of self }
+    {
+        self as u8
+    }
+}
