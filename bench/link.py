@@ -1,0 +1,133 @@
+#!/usr/bin/env python3
+"""Time and memory of `polkatool link` on long texts, and whether both stay in proportion to the text.
+
+    link.py [PROGRAM] [--rounds 5]
+
+PROGRAM is crates/polkatool/out/polkatool of this repository if left out. The objects have 2^16, 2^18 and 2^20 words,
+`addi a0,a0,1` and a last `ret`, and the form of examples/five/five.o.
+
+Time: the least of the rounds, less the least time of a link of one word, for each word. The sizes take turns, and
+short texts, whose time is near that of the start, are linked up to eight times a round.
+Memory: the peak resident size, less that of a run without words, which answers `bad command line`, for each byte of
+object and container together. Each answer is compared with what it has to be.
+
+Times and ratios of one run mean something, as machines differ. The status is 0 where both last lines say ok, else 1. It
+runs on Linux alone.
+"""
+import argparse
+import ctypes
+import os
+import subprocess
+import sys
+import tempfile
+import time
+
+HERE = os.path.dirname(os.path.abspath(__file__))
+ROOT = os.path.dirname(HERE)
+sys.dont_write_bytecode = True
+sys.path.insert(0, os.path.join(ROOT, "examples", "five"))
+from make import object_of
+
+SIZES = (2**16, 2**18, 2**20)
+TIME_BAR = 1.5  # time a word of the longest text over that of the shortest
+MEMORY_BAR = 12  # bytes of memory a byte of object and container
+ADDI, RET = 0x00150513, 0x00008067
+BAD_COMMAND_LINE = 2  # the status of a run without words
+MAP = b"entry 0 00000005 main\n"
+PR_SET_CHILD_SUBREAPER = 36
+
+
+def code_of(count):
+    """The code that stands in the container: the entry jump, and each word's instruction."""
+    return bytes.fromhex("2805000000") + bytes.fromhex("957701") * (count - 1) + bytes.fromhex("3200")
+
+
+def seconds(words):
+    begin = time.perf_counter()
+    done = subprocess.run(words, capture_output=True, stdin=subprocess.DEVNULL)
+    return time.perf_counter() - begin, done
+
+
+def timed_link(program, source, target, count):
+    """The seconds of one link, whose answer is looked at."""
+    if os.path.exists(target):
+        os.remove(target)
+    took, done = seconds([program, "link", "-o", target, source])
+    if done.returncode != 0 or done.stdout != MAP or done.stderr:
+        sys.exit("a link of %d words ended with status %d: %r %r" % (count, done.returncode, done.stdout[:200], done.stderr[:200]))
+    with open(target, "rb") as file:
+        if code_of(count) not in file.read():
+            sys.exit("a link of %d words wrote another code" % count)
+    return took
+
+
+def peak(words, wanted):
+    """The greatest resident size, in bytes, of a run of these words that has to end with the wanted status.
+
+    The kernel counts for a process what its parent held when it made it. So a shell, which holds little, makes the
+    process in the background and ends, and the process then becomes a child of this one.
+    """
+    if ctypes.CDLL(None).prctl(PR_SET_CHILD_SUBREAPER, 1, 0, 0, 0) != 0:
+        sys.exit("the peak memory of a process can't be told here")
+    for _ in range(20):
+        shell = subprocess.Popen(["/bin/sh", "-c", '"$@" & exec true', "sh", *words], stdin=subprocess.DEVNULL, stdout=subprocess.DEVNULL, stderr=subprocess.DEVNULL)
+        shell.wait()
+        try:
+            _, status, used = os.wait4(-1, 0)
+        except ChildProcessError:
+            continue  # it ended before the shell did, and the shell took its numbers
+        if os.waitstatus_to_exitcode(status) != wanted:
+            sys.exit("%s ended with status %d, and not %d" % (words, os.waitstatus_to_exitcode(status), wanted))
+        return used.ru_maxrss * 1024
+    sys.exit("the peak memory of a process can't be told here")
+
+
+def measure(program, rounds, folder):
+    """Yields count, seconds a word, bytes of object and container, and bytes of memory for each of them."""
+    counts = (1, *SIZES)
+    sources = {count: os.path.join(folder, "%d.o" % count) for count in counts}
+    targets = {count: os.path.join(folder, "%d.pvm" % count) for count in counts}
+    for count in counts:
+        with open(sources[count], "wb") as file:
+            file.write(object_of([ADDI] * (count - 1) + [RET]))
+    took = {count: [] for count in counts}
+    for _ in range(rounds):
+        for count in counts:
+            for _ in range(min(8, SIZES[-1] // count)):
+                took[count].append(timed_link(program, sources[count], targets[count], count))
+    idle = peak([program], BAD_COMMAND_LINE)
+    for count in SIZES:
+        a_word = (min(took[count]) - min(took[1])) / (count - 1)
+        size = os.path.getsize(sources[count]) + os.path.getsize(targets[count])
+        memory = peak([program, "link", "-o", targets[count], sources[count]], 0) - idle
+        yield count, a_word, size, memory / size
+
+
+def judged(what, value, bar):
+    ok = value <= bar
+    print("%s %.2f, bar %g: %s" % (what, value, bar, "ok" if ok else "over the bar"))
+    return ok
+
+
+def main():
+    a = argparse.ArgumentParser()
+    a.add_argument("program", nargs="?", default=os.path.join(ROOT, "crates", "polkatool", "out", "polkatool"))
+    a.add_argument("--rounds", type=int, default=5)
+    o = a.parse_args()
+    program = os.path.abspath(o.program)
+    if not os.access(program, os.X_OK):
+        sys.exit("%s isn't there; the script polkatool at the top of the repository builds it" % program)
+    with tempfile.TemporaryDirectory() as folder:
+        found = []
+        for count, a_word, size, a_byte in measure(program, o.rounds, folder):
+            print("%8d words  %9d bytes  %8.2f ns a word  %6.2f bytes of memory a byte" % (count, size, a_word * 1e9, a_byte), flush=True)
+            found.append((a_word, a_byte))
+    shortest, longest = found[0][0], found[-1][0]
+    if shortest <= 0:
+        sys.exit("a link of %d words takes no longer than one of a word: try more --rounds" % SIZES[0])
+    in_time = judged("time a word of %d words over that of %d:" % (SIZES[-1], SIZES[0]), longest / shortest, TIME_BAR)
+    in_memory = judged("most bytes of memory a byte:", max(a_byte for _, a_byte in found), MEMORY_BAR)
+    return 0 if in_time and in_memory else 1
+
+
+sys.exit(main())
