@@ -29,7 +29,7 @@ use Rattle.pvm_ops.specs.BlockList.{Block, BlockList}
 use Rattle.blob_check.specs.Starts.{is_start}
 use Rattle.pvm_machine.specs.Effect.{effect}
 use Rattle.pvm_machine.specs.Step.{land, does_at, instr_at}
-use Rattle.pvm_machine.specs.Laws.{EffectIsRenamed, EffectIsPlain}
+use Rattle.pvm_machine.specs.Laws.{EffectIsRenamed, EffectIsPlain, EffectIsNamed}
 use Rattle.jump_table.specs.Assembly.{entry_len, jump, offset, instrs_of, instr_position, first_of, start_of, code_of, table_of}
 use Rattle.jump_table.specs.Laws.{Fetches, IsPlain, IsPlaced, CodeIsPlaced}
 use Rattle.lower.specs.Lowering.{lowered_blocks}
@@ -40,6 +40,8 @@ use Rattle.link_core.specs.Runs.{source_run, machine_run, image_of}
 use Rattle.link_core.specs.Agrees.{Agrees}
 use Rattle.link_core.specs.Linked.{container_of, IsLinked}
 use Rattle.link_core.specs.Laws.{LinkedAgrees}
+use Rattle.pvm_ops.proofs.Table as table
+use Rattle.pvm_machine.proofs.Opcodes as operation
 use Rattle.pvm_machine.proofs.Standings.{instr_stands}
 use Rattle.link_core.proofs.CodeLock.{code_lock}
 
@@ -56,7 +58,7 @@ start_within : (code : Listing) (at : ℕ) → is_start code at ≡ true → at 
 start_within code at e = marked_within code at (first_true _ _ (first_true _ _ e))
 
 module _ (source_lock : SourceLock) (cut : LoweredIsCut) (blocks_are_all : BlocksAreAll) (entries_begin : EntriesBegin) (blocks_stand : BlocksStand) (same_instrs : SameInstrs)
-    (same_places : SamePlaces) (is_plain : LoweredIsPlain) (is_placed : CodeIsPlaced) (renamed : EffectIsRenamed) (no_target : EffectIsPlain) (start_is_good : StartIsGood) where
+    (same_places : SamePlaces) (is_plain : LoweredIsPlain) (is_placed : CodeIsPlaced) (renamed : EffectIsRenamed) (no_target : EffectIsPlain) (named : EffectIsNamed) (start_is_good : StartIsGood) where
   module _ (given : Given) (lifted : Lifted) (is_lifted : IsLifted given lifted) (small : length (code_of (lowered_blocks lifted)).bytes < 2 ^ 31) where
     abbrev list : BlockList
     list = lowered_blocks lifted
@@ -80,7 +82,7 @@ module _ (source_lock : SourceLock) (cut : LoweredIsCut) (blocks_are_all : Block
         ap (λ k. is_start code (instr_position list k)) (same_places lifted (block_of lifted.begins t)) ∙ placed.starts (block_of lifted.begins t) b.0 b.1
 
     laid : Laid (instr_does no_host lifted.needed) (does_at no_host (table_of list) code) (all_instrs (pieces lifted)) (instr_places lifted) (instr_position list) (instr_at code)
-    laid = code_lock no_host list code plain placed renamed no_target (all_instrs (pieces lifted)) (same_instrs lifted) (instr_places lifted) lifted.needed (table_of list) (table_same lifted.needed)
+    laid = code_lock no_host list code plain placed renamed no_target named (all_instrs (pieces lifted)) (same_instrs lifted) (instr_places lifted) lifted.needed (table_of list) (table_same lifted.needed)
         (λ i t e. starts t (is_lifted.needed_stand i t e))
 
     ops_laid : Laid (op_does no_host lifted.needed) (op_does no_host (needed_places given)) (all_ops (pieces lifted)) (λ t. t) (place lifted.places) (fetch_op given)
@@ -93,8 +95,8 @@ module _ (source_lock : SourceLock) (cut : LoweredIsCut) (blocks_are_all : Block
     back at to a b = omega arith
 
     jump_does : (from to target : ℕ) (s : State) → target ≡ sum_64 from (offset from to) → does_at no_host (table_of list) code (record { instr = jump (offset from to); at = from }) s ≡ land (is_start code) (Jump target s)
-    unfolding effect form_of
-    jump_does from to target s e = ap (λ x. land (is_start code) (Jump x s)) (sym e)
+    unfolding effect
+    jump_does from to target s e = rw (operation.jump, table.jump_form) (ap (λ x. land (is_start code) (Jump x s)) (sym e))
 
     jumps : (from to next : ℕ) (s : State) → sum_64 from (offset from to) ≡ to → is_start code to ≡ true
         → act_on (rules no_host) (does_at no_host (table_of list) code) (Some (record { instr = record { instr = jump (offset from to); at = from }; next = next })) s ≡ Goes [] 0 0 (record { at = to; of = s })

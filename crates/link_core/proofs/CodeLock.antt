@@ -18,63 +18,13 @@ use Rattle.blob_check.specs.Starts.{is_start}
 use Rattle.pvm_machine.specs.Effect.{effect}
 use Rattle.pvm_machine.specs.Step.{Standing, land, does_at, stands, instr_at}
 use Rattle.pvm_machine.proofs.Standings.{instr_stands, none_stands}
-use Rattle.pvm_machine.specs.Laws.{EffectIsRenamed, EffectIsPlain}
+use Rattle.pvm_machine.specs.Laws.{EffectIsRenamed, EffectIsPlain, EffectIsNamed, IsNamed}
 use Rattle.jump_table.specs.Assembly.{instrs_of, instr_position, first_of, start_of}
 use Rattle.jump_table.specs.Laws.{IsPlain, Fetches, IsPlaced}
 use Rattle.lower.specs.Cutting.{Aimed, instr_does}
 
--- the targets of an outcome are entries of a table
-abbrev pub Named : List ℕ → Outcome ℕ State End → Type 0
-Named table (Next s) = Unit {0}
-Named table (Jump target s) = (i : ℕ) × (slice_get table i ≡ Some target)
-Named table (Call number s) = Unit {0}
-Named table (Ends end) = Unit {0}
-
-module _ (host : Host) (table : List ℕ) where
-  to_named_is : (o : Option ℕ) (s : State) → ((t : ℕ) → o ≡ Some t → (i : ℕ) × (slice_get table i ≡ Some t)) → Named table (to_named (rules host) o s)
-  to_named_is None s h = tt
-  to_named_is (Some t) s h = h t refl
-
-  entry_is : (k t : ℕ) → entry table k ≡ Some t → (i : ℕ) × (slice_get table i ≡ Some t)
-  entry_is zero t e = absurd cc
-  entry_is (suc k) t e = (k, e)
-
-  even_is : (b : Bool) (k t : ℕ) → (if b then entry table k else None) ≡ Some t → (i : ℕ) × (slice_get table i ≡ Some t)
-  even_is true k t e = entry_is k t e
-  even_is false k t e = absurd cc
-
-  by_halt : (b : Bool) (s : State) (o : Outcome ℕ State End) → Named table o → Named table (if b then Ends (halt s) else o)
-  by_halt true s o h = tt
-  by_halt false s o h = h
-
-  jump_by_is : (number : ℕ) (s : State) → Named table (jump_by (rules host) table number s)
-  jump_by_is number s = by_halt (nat_eq number 0xFFFF0000) s _ (to_named_is (named table number) s (λ t e. even_is (nat_eq (number % 2) 0) (number / 2) t e))
-
-  by_test : (b : Bool) (x y : Outcome ℕ State End) → (b ≡ true → Named table x) → Named table y → Named table (if b then x else y)
-  by_test true x y h k = h refl
-  by_test false x y h k = k
-
-  has_none : (op : ℕ) → has_offset (form_of op) ≡ false → (op == 40) ≡ true → ⊥
-  unfolding form_of
-  has_none op h e =
-      let is : op ≡ 40 = eqb-true op 40 e in
-      let offset : has_offset (form_of op) ≡ true = rw is refl in
-      absurd cc
-
-  -- an instruction without an offset jumps to entries of the table alone
-  pub effect_is_named : (target : ℕ) (i : Instr) (s : State) → has_offset (form_of i.op) ≡ false → Named table (effect host table target i s)
-  unfolding effect
-  effect_is_named target i s h =
-      by_test (i.op == 0) _ _ (λ _. tt)
-      (by_test (i.op == 1) _ _ (λ _. tt)
-      (by_test (i.op == 40) _ _ (λ e. absurd (has_none i.op h e))
-      (by_test (i.op == 50) _ _ (λ _. jump_by_is ((register s i.a + i.x) % 2 ^ 32) s)
-      (by_test (i.op == 51) _ _ (λ _. tt)
-      (by_test (i.op == 100) _ _ (λ _. tt)
-      (by_test (i.op == 149) _ _ (λ _. tt) tt))))))
-
 -- a jump to where blocks start lands
-pub lands : (starts : ℕ → Bool) (name : ℕ → ℕ) (table : List ℕ) (o : Outcome ℕ State End) → Named table o → ((i t : ℕ) → slice_get table i ≡ Some t → starts (name t) ≡ true) → land starts (retarget name o) ≡ retarget name o
+pub lands : (starts : ℕ → Bool) (name : ℕ → ℕ) (table : List ℕ) (o : Outcome ℕ State End) → IsNamed table o → ((i t : ℕ) → slice_get table i ≡ Some t → starts (name t) ≡ true) → land starts (retarget name o) ≡ retarget name o
 lands starts name table (Next s) h k = refl
 lands starts name table (Jump t s) h k = rw (k h.0 t h.1) refl
 lands starts name table (Call number s) h k = refl
@@ -87,7 +37,7 @@ goes_same x (Jump t s) = tt
 goes_same x (Call number s) = refl
 goes_same x (Ends end) = tt
 
-module _ (host : Host) (list : BlockList) (code : Listing) (plain : IsPlain list) (placed : IsPlaced list code) (renamed : EffectIsRenamed) (no_target : EffectIsPlain)
+module _ (host : Host) (list : BlockList) (code : Listing) (plain : IsPlain list) (placed : IsPlaced list code) (renamed : EffectIsRenamed) (no_target : EffectIsPlain) (named : EffectIsNamed)
     (instrs : List Aimed) (same_instrs : map (λ a. a.instr) instrs ≡ instrs_of list)
     (places : ℕ → ℕ) (needed table : List ℕ) (same_table : table ≡ map (λ t. instr_position list (places t)) needed)
     (starts : (i t : ℕ) → slice_get needed i ≡ Some t → is_start code (instr_position list (places t)) ≡ true) where
@@ -104,7 +54,7 @@ module _ (host : Host) (list : BlockList) (code : Listing) (plain : IsPlain list
       ap (λ l. land (is_start code) (effect host l target a.instr s)) same_table
       ∙ ap (land (is_start code)) (no_target host (map (λ t. instr_position list (places t)) needed) target to a.instr s none)
       ∙ ap (land (is_start code)) (renamed host (λ t. instr_position list (places t)) needed a.target a.instr s)
-      ∙ lands (is_start code) (λ t. instr_position list (places t)) needed (effect host needed a.target a.instr s) (effect_is_named host needed a.target a.instr s none) starts
+      ∙ lands (is_start code) (λ t. instr_position list (places t)) needed (effect host needed a.target a.instr s) (named host needed a.target a.instr s none) starts
 
   -- the instructions of a list stand in its code, do the same there, and nothing stands behind them
   pub code_lock : Laid (instr_does host needed) (does_at host table code) instrs places (instr_position list) (instr_at code)

@@ -1,21 +1,18 @@
 -- The two runs: that of the objects, by steps, and that of the linked program, under gas.
-use Rattle.std.specs.Prelude.{ℕ, ◌*◌, List, [], slice_get}
-use Rattle.runs.specs.Runs.{Steps, Paid, run, pay_run}
+use Rattle.std.specs.Prelude.{ℕ, List, []}
+use Rattle.runs.specs.Runs.{Steps, Paid, run}
 use Rattle.machine_state.specs.Ends.{Event, End, no_host}
 use Rattle.machine_state.specs.Start.{Image, start_state}
 use Rattle.symbols.specs.Wanted.{Given}
 use Rattle.lift_blocks.specs.Listed.{entry_places, place}
 use Rattle.lift_blocks.specs.Step.{source_step}
-use Rattle.pvm_machine.specs.Step.{machine_step}
+use Rattle.pvm_machine.specs.Started.{started}
+use Rattle.pvm_machine.specs.Ran.{run_of}
 use Rattle.blob_codec.specs.Grammar.{Container}
 
 -- what the objects start with: so far they have no data, and so only a stack
 abbrev pub image_of : Given → Image
 image_of given = record { read_only = []; writable = []; zero_pages = 0; stack = given.wanted.stack }
-
--- what a container starts with
-abbrev pub image_in : Container → Image
-image_in c = record { read_only = c.read_only; writable = c.writable; zero_pages = c.zero_pages; stack = c.stack }
 
 -- So many steps of the objects, from the standard start with an argument, at the place of the entry with a number.
 -- No host answers yet: no operation that is built calls one.
@@ -25,4 +22,4 @@ source_run given entry argument n = run (source_step no_host given) n (record { 
 -- The container's run with so much gas, from the standard start with an argument, at the jump of the entry with a
 -- number: entry i begins at position 5 i (JAM Gray Paper 0.7.0, appendix A: invocations at 0, 5, 10 and so on).
 abbrev pub machine_run : Container → ℕ → List ℕ → ℕ → Paid Event End
-machine_run c entry argument gas = pay_run (machine_step no_host c.program.table c.program.code) gas (record { at = 5 * entry; of = start_state (image_in c) argument })
+machine_run c entry argument gas = run_of (started c entry argument gas)

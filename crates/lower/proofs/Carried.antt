@@ -10,6 +10,7 @@ use Rattle.lift_blocks.specs.Operations.{Operation}
 use Rattle.lift_blocks.specs.Step.{op_does}
 use Rattle.pvm_ops.specs.declared.instr.Instr.{Instr}
 use Rattle.pvm_machine.specs.Effect.{effect}
+use Rattle.pvm_machine.proofs.Opcodes as opcode
 use Rattle.lower.specs.Instructions.{fallthrough}
 use Rattle.lower.specs.Cutting.{Aimed, aimed_op, aimed_tail, piece_of, instr_does}
 use Rattle.lower.proofs.Lists.{IsBlockOf}
@@ -31,7 +32,7 @@ module _ (host : Host) (needed : List ℕ) where
   -- a fallthrough goes on
   fallthrough_goes_on : (s : State) → ◌≡◌ {A = Outcome ℕ State End} (does (instr_does host needed) (aimed_all (fallthrough ∷ [])) s) (Next s)
   unfolding effect
-  fallthrough_goes_on s = refl
+  fallthrough_goes_on s = rw opcode.fallthrough refl
 
   -- a tail only goes on
   tail_goes_on : (ops : List (Operation ℕ)) (s : State) → ◌≡◌ {A = Outcome ℕ State End} (does (instr_does host needed) (aimed_tail ops) s) (Next s)

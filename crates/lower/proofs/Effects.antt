@@ -17,6 +17,7 @@ use Rattle.machine_state.proofs.Registers.{registers_stay}
 use Rattle.lift_blocks.specs.Operations.{Operation, Plain, Jalr}
 use Rattle.lift_blocks.specs.Step.{op_does}
 use Rattle.pvm_machine.specs.Effect.{effect}
+use Rattle.pvm_machine.proofs.Opcodes as opcode
 use Rattle.lower.specs.Cutting.{aimed_op, instr_does}
 use Rattle.lower.proofs.Built.{IsPlainOp, IsReturn, IsBuilt}
 
@@ -72,13 +73,13 @@ module _ (host : Host) (needed : List ℕ) where
   unfolding effect
   lowers_addi Zero rs1 imm h = record { same = λ s g. refl; three = omega arith; quiet = λ s. tt; stays = λ s g. g }
   lowers_addi (R d) Zero imm h = record {
-    same = λ s g. ap (λ v. Next (with_register s d v)) (sym (sum_zero imm h));
+    same = λ s g. rw opcode.load_imm (ap (λ v. Next (with_register s d v)) (sym (sum_zero imm h)));
     three = omega arith;
     quiet = λ s. tt;
     stays = λ s g. registers_stay s d (sum_64 0 (word_of imm)) g (omega arith);
   }
   lowers_addi (R d) (R a) imm h = record {
-    same = λ s g. refl;
+    same = λ s g. rw opcode.add_imm_64 refl;
     three = omega arith;
     quiet = λ s. tt;
     stays = λ s g. registers_stay s d (sum_64 (register s a) (word_of imm)) g (omega arith);
@@ -88,14 +89,14 @@ module _ (host : Host) (needed : List ℕ) where
   lowers_plain : (op : RvOp) → IsPlainOp op → LowersOp (Plain op)
   unfolding effect
   lowers_plain (rv.OpImm Addi rd rs1 imm) h = lowers_addi rd rs1 imm h.2
-  lowers_plain rv.Trap h = record { same = λ s g. refl; three = omega arith; quiet = λ s. tt; stays = λ s g. tt }
+  lowers_plain rv.Trap h = record { same = λ s g. rw opcode.trap refl; three = omega arith; quiet = λ s. tt; stays = λ s g. tt }
   lowers_plain op h = absurd h
 
   -- ret
   lowers_return : (rd rs1 : Reg) (imm : ℤ) (link : ℕ) → IsReturn rd rs1 imm → LowersOp (Jalr rd rs1 imm link)
   unfolding effect
   lowers_return Zero (R a) imm link h = record {
-    same = λ s g. and_no_more (jump_by (rules host) needed ((register s a + word_of imm) % 2 ^ 32) s);
+    same = λ s g. rw opcode.jump_ind (and_no_more (jump_by (rules host) needed ((register s a + word_of imm) % 2 ^ 32) s));
     three = omega arith;
     quiet = λ s. jump_no_call ((register s a + word_of imm) % 2 ^ 32) s;
     stays = λ s g. jump_stays ((register s a + word_of imm) % 2 ^ 32) s g;

@@ -12,7 +12,7 @@ use Rattle.rv_decode.specs.Operations.{IsSigned}
 use Rattle.runs.specs.Pieces.{lowered}
 use Rattle.lift_blocks.specs.Operations.{Operation, Plain, Jalr}
 use Rattle.pvm_ops.specs.declared.instr.Instr.{Instr}
-use Rattle.pvm_ops.specs.Opcodes.{is_known, form_of}
+use Rattle.pvm_ops.proofs.Table as opcode
 use Rattle.pvm_ops.specs.Fetch.{trap}
 use Rattle.pvm_ops.specs.Spelling.{IsShort}
 use Rattle.jump_table.specs.Laws.{IsPlainInstr, IsEnded}
@@ -28,47 +28,42 @@ short (negsuc n) h = grind (arith, nat_tests)
 
 -- trap can be placed
 trap_is_plain : IsPlainInstr trap
-unfolding is_known form_of
 trap_is_plain = record {
-  known = refl;
-  encodable = record { a = omega arith; b = omega arith; d = omega arith; offset = omega arith; unused = refl; fit = tt };
-  no_offset = refl;
+  known = opcode.trap_known;
+  encodable = record { a = omega arith; b = omega arith; d = omega arith; offset = omega arith; unused = rw opcode.trap_form refl; fit = rw opcode.trap_form tt };
+  no_offset = rw opcode.trap_form refl;
 }
 
 -- so can fallthrough
 fallthrough_is_plain : IsPlainInstr fallthrough
-unfolding is_known form_of
 fallthrough_is_plain = record {
-  known = refl;
-  encodable = record { a = omega arith; b = omega arith; d = omega arith; offset = omega arith; unused = refl; fit = tt };
-  no_offset = refl;
+  known = opcode.fallthrough_known;
+  encodable = record { a = omega arith; b = omega arith; d = omega arith; offset = omega arith; unused = rw opcode.fallthrough_form refl; fit = rw opcode.fallthrough_form tt };
+  no_offset = rw opcode.fallthrough_form refl;
 }
 
 -- so can jump_ind
 jump_ind_is_plain : (a : ℕ) (imm : ℤ) → a < 13 → IsSigned 12 imm → IsPlainInstr (jump_ind a (word_of imm))
-unfolding is_known form_of
 jump_ind_is_plain a imm small h = record {
-  known = refl;
-  encodable = record { a = omega arith; b = omega arith; d = omega arith; offset = omega arith; unused = refl; fit = short imm h };
-  no_offset = refl;
+  known = opcode.jump_ind_known;
+  encodable = record { a = omega arith; b = omega arith; d = omega arith; offset = omega arith; unused = rw opcode.jump_ind_form refl; fit = rw opcode.jump_ind_form (short imm h) };
+  no_offset = rw opcode.jump_ind_form refl;
 }
 
 -- so can load_imm
 load_imm_is_plain : (a : ℕ) (imm : ℤ) → a < 13 → IsSigned 12 imm → IsPlainInstr (load_imm a (word_of imm))
-unfolding is_known form_of
 load_imm_is_plain a imm small h = record {
-  known = refl;
-  encodable = record { a = omega arith; b = omega arith; d = omega arith; offset = omega arith; unused = refl; fit = short imm h };
-  no_offset = refl;
+  known = opcode.load_imm_known;
+  encodable = record { a = omega arith; b = omega arith; d = omega arith; offset = omega arith; unused = rw opcode.load_imm_form refl; fit = rw opcode.load_imm_form (short imm h) };
+  no_offset = rw opcode.load_imm_form refl;
 }
 
 -- so can add_imm_64
 add_imm_64_is_plain : (a b : ℕ) (imm : ℤ) → a < 13 → b < 13 → IsSigned 12 imm → IsPlainInstr (add_imm_64 a b (word_of imm))
-unfolding is_known form_of
 add_imm_64_is_plain a b imm small_a small_b h = record {
-  known = refl;
-  encodable = record { a = omega arith; b = omega arith; d = omega arith; offset = omega arith; unused = refl; fit = short imm h };
-  no_offset = refl;
+  known = opcode.add_imm_64_known;
+  encodable = record { a = omega arith; b = omega arith; d = omega arith; offset = omega arith; unused = rw opcode.add_imm_64_form refl; fit = rw opcode.add_imm_64_form (short imm h) };
+  no_offset = rw opcode.add_imm_64_form refl;
 }
 
 -- a block's tail is none or a fallthrough

@@ -1,5 +1,8 @@
+pub mod Forms
+pub mod Does
 pub mod Done
 pub mod Effects
+pub mod Opcodes
 pub mod Readable
 pub mod Runs
 pub mod Standings

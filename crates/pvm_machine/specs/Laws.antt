@@ -1,13 +1,14 @@
 -- The laws of effects and steps that contracts name.
-use Rattle.std.specs.Prelude.{◌≡◌, ℕ, ◌<◌, List, [], map, false}
+use Rattle.std.specs.Prelude.{◌≡◌, ℕ, ◌<◌, List, [], map, false, Some, slice_get}
 use Rattle.runs.specs.Turn.{Turn, Goes, Stops}
-use Rattle.runs.specs.Machine.{At, placed, retarget}
+use Rattle.runs.specs.Machine.{Outcome, Next, Jump, Call, Ends, At, placed, retarget}
 use Rattle.machine_state.specs.State.{State}
 use Rattle.machine_state.specs.Ends.{Event, End, Fault, Host, halt, panic}
 use Rattle.pvm_ops.specs.declared.instr.Instr.{Instr}
 use Rattle.pvm_ops.specs.Opcodes.{form_of}
 use Rattle.pvm_ops.specs.Offsets.{has_offset}
 use Rattle.pvm_machine.specs.Effect.{effect}
+use Rattle.pvm_machine.specs.Operations.{operation_of, form_with}
 use Rattle.pvm_machine.specs.Machine.{Machine, standing}
 use Rattle.pvm_machine.specs.Step.{machine_step}
 use Rattle.pvm_machine.specs.Stepped.{Stepped, stepped, all_steps}
@@ -25,6 +26,23 @@ abbrev pub EffectIsPlain : Type 0
 EffectIsPlain =
     (host : Host) (table : List ℕ) (target other : ℕ) (i : Instr) (s : State) → has_offset (form_of i.op) ≡ false
     → effect host table target i s ≡ effect host table other i s
+
+-- an outcome whose targets are entries of a table
+abbrev pub IsNamed : List ℕ → Outcome ℕ State End → Type 0
+IsNamed table (Next s) = Unit {0}
+IsNamed table (Jump target s) = (i : ℕ) × (slice_get table i ≡ Some target)
+IsNamed table (Call number s) = Unit {0}
+IsNamed table (Ends end) = Unit {0}
+
+-- an instruction without an offset jumps to entries of the table alone
+abbrev pub EffectIsNamed : Type 0
+EffectIsNamed =
+    (host : Host) (table : List ℕ) (target : ℕ) (i : Instr) (s : State) → has_offset (form_of i.op) ≡ false
+    → IsNamed table (effect host table target i s)
+
+-- the operation of every opcode takes its operands from the fields of the opcode's form
+abbrev pub OperationsHaveForms : Type 0
+OperationsHaveForms = (op : ℕ) → form_of op ≡ form_with (operation_of op)
 
 -- the turn of a machine is what a step with an answer left; for a call it is the host's answer, at where the step stands
 abbrev pub IsTurnTo : Host → Turn (At ℕ State) Event End → Machine → Step → Type 0

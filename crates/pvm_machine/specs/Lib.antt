@@ -1,3 +1,4 @@
+pub mod Operations
 pub mod Effect
 pub mod Step
 pub mod Laws

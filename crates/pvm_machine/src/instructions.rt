@@ -1,13 +1,16 @@
-ghost use Rattle.std.specs.Prelude.{◌≡◌, ◌≤◌, ◌%◌, ◌^◌, ◌+◌};
-ghost use Rattle.numbers.specs.Words.{sum_64};
+ghost use Rattle.std.specs.Prelude.{◌≡◌, ◌≤◌, ◌%◌, ◌^◌, ◌+◌, IsTrue, slice_set};
 ghost use Rattle.runs.specs.Machine.{Jump};
 ghost use Rattle.runs.specs.Numbers.{named, jump_by};
 ghost use Rattle.machine_state.specs.State.{State};
 ghost use Rattle.machine_state.specs.Ends.{no_host, rules};
+ghost use Rattle.pvm_ops.specs.Opcodes.{is_known};
 ghost use Rattle.blob_check.specs.Starts.{is_start};
+ghost use Rattle.pvm_machine.specs.Effect.{branches, chosen};
 ghost use Rattle.pvm_machine.specs.Step.{land, does_at};
 ghost use Rattle.pvm_machine.specs.Outcomes.{outcome_of, with_registers};
 
+use crate::operation::{Operation, decode};
+use arithmetic::Condition;
 use blob_check::is_start;
 use blob_codec::Program;
 use pvm_ops::{Code, Instr};
@@ -36,6 +39,17 @@ fn go(code: &Code<'_>, target: u64) -> Outcome
         Outcome::Jump(target)
     } else {
         Outcome::Panic
+    }
+}
+
+/// A jump to a position where two numbers compare so.
+fn branch(code: &Code<'_>, condition: Condition, x: u64, y: u64, target: u64) -> Outcome
+    ensures { (s : State) → land (is_start code.now) (branches condition x y target s) ≡ outcome_of result s }
+{
+    if condition.holds(x, y) {
+        go(code, target)
+    } else {
+        Outcome::Next
     }
 }
 
@@ -74,8 +88,38 @@ fn go_by(code: &Code<'_>, program: &Program<'_>, number: u64) -> Outcome
     }
 }
 
+/// The first of two values where a number compares so with 0, else the second.
+fn chosen(condition: Condition, number: u64, x: u64, y: u64) -> u64
+    ensures { result ≡ chosen condition number x y }
+{
+    if condition.holds(number, 0) { x } else { y }
+}
+
+/// A register takes a value.
+fn put(registers: &mut Registers, at: u8, value: u64) -> Outcome
+    requires { at ≤ 12 }
+    ensures next { result ≡ Outcome.Next }
+    ensures put { registers.new ≡ slice_set registers.old at value }
+{
+    registers[usize::from(at)] = value;
+    Outcome::Next
+}
+
+/// A register takes a value as the program jumps, and stays where the jump panics.
+fn put_as(outcome: Outcome, registers: &mut Registers, at: u8, value: u64) -> Outcome
+    requires { at ≤ 12 }
+    ensures same { result ≡ outcome }
+    ensures kept { result ≡ Outcome.Panic → registers.new ≡ registers.old }
+    ensures put { (result ≡ Outcome.Panic → ⊥) → registers.new ≡ slice_set registers.old at value }
+{
+    if outcome != Outcome::Panic {
+        registers[usize::from(at)] = value;
+    }
+    outcome
+}
+
 /// Does the instruction that stands at a position, as far as the registers go.
-#[tactic(auto, unfolding(crate::specs::Effect::effect, pvm_ops::specs::Opcodes::form_of))]
+#[tactic(auto, unfolding(crate::specs::Effect::effect))]
 pub(crate) fn act(
     code: &Code<'_>,
     program: &Program<'_>,
@@ -84,26 +128,48 @@ pub(crate) fn act(
     registers: &mut Registers,
 ) -> Outcome
     requires registers { (instr.a ≤ 12) × (instr.b ≤ 12) × (instr.d ≤ 12) }
+    requires known { IsTrue (is_known instr.op) }
     ensures does { (s : State) → does_at no_host program.now.table code.now (record { instr = instr; at = at }) (with_registers s registers.old) ≡ outcome_of result (with_registers s registers.new) }
     ensures kept { result ≡ Outcome.Panic → registers.new ≡ registers.old }
 {
-    let a = instr.a as usize;
-    match instr.op {
-        1 => Outcome::Next,
-        40 => go(code, at.wrapping_add(instr.x)),
-        50 => go_by(code, program, low_sum(registers[a], instr.x)),
-        51 => {
-            registers[a] = instr.x;
-            Outcome::Next
+    let a = registers[instr.a as usize];
+    let b = registers[instr.b as usize];
+    match decode(instr.op) {
+        Operation::Fallthrough => Outcome::Next,
+        Operation::LoadImm | Operation::LoadImm64 => put(registers, instr.a, instr.x),
+        Operation::Jump => go(code, at.wrapping_add(instr.x)),
+        Operation::JumpInd => go_by(code, program, low_sum(a, instr.x)),
+        Operation::LoadImmJump => {
+            let outcome = go(code, at.wrapping_add(instr.y));
+            put_as(outcome, registers, instr.a, instr.x)
         }
-        100 => {
-            registers[instr.d as usize] = registers[a];
-            Outcome::Next
+        Operation::BranchImm(condition) => {
+            branch(code, condition, a, instr.x, at.wrapping_add(instr.y))
         }
-        149 => {
-            registers[a] = registers[instr.b as usize].wrapping_add(instr.x);
-            Outcome::Next
+        Operation::Unary(op) => put(registers, instr.d, op.apply(a)),
+        Operation::Imm(op) => put(registers, instr.a, op.apply(b, instr.x)),
+        Operation::ImmAlt(op) => put(registers, instr.a, op.apply(instr.x, b)),
+        Operation::CmovImm(condition) => {
+            put(registers, instr.a, chosen(condition, b, instr.x, a))
         }
-        _ => Outcome::Panic,
+        Operation::Branch(condition) => { branch(code, condition, a, b, at.wrapping_add(instr.x)) }
+        Operation::LoadImmJumpInd => {
+            let outcome = go_by(code, program, low_sum(b, instr.y));
+            put_as(outcome, registers, instr.a, instr.x)
+        }
+        Operation::Register(op) => put(registers, instr.d, op.apply(a, b)),
+        Operation::Cmov(condition) => {
+            let d = registers[instr.d as usize];
+            put(registers, instr.d, chosen(condition, b, a, d))
+        }
+        Operation::Trap
+        | Operation::Ecalli
+        | Operation::StoreImm(_)
+        | Operation::Load(_, _)
+        | Operation::Store(_)
+        | Operation::StoreImmInd(_)
+        | Operation::Sbrk
+        | Operation::StoreInd(_)
+        | Operation::LoadInd(_, _) => Outcome::Panic,
     }
 }

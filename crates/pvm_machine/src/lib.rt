@@ -8,10 +8,13 @@ mod answers;
 mod instructions;
 mod laws;
 mod machine;
+#[cfg(test)]
+mod opcode_tests;
+mod operation;
 mod start_state;
 #[cfg(test)]
 mod tests;
 
 pub use answers::{Exit, StartFault, Step};
-pub use laws::{effects_keep_targets, memory_stays, steps_are_turns};
+pub use laws::{effects_keep_targets, memory_stays, operations_have_forms, steps_are_turns};
 pub use machine::Machine;
