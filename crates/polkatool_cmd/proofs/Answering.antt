@@ -1,7 +1,7 @@
 -- What reads, writes and puts make of a command.
 use Rattle.std.proofs.Common.{◌≡◌, ℕ, zero, suc, ◌+◌, ◌-◌, ◌^◌, ◌<◌, List, [], ◌∷◌, length, Option, Some, None, Ok, Err, refl, ap, ◌∙◌, subst, inr, arith}
 use Rattle.std.proofs.lemmas.Bool.{lt-ltb}
-use Rattle.outside.specs.Outside.{Files, AnswersRead, AnswersWrite as Holds}
+use Rattle.outside.specs.Outside.{Files, AnswersRead}
 use Rattle.outside.specs.declared.folder.ReadFault.{ReadFault}
 use Rattle.outside.specs.declared.folder.ReadFault.TheVariants.{TooLarge}
 use Rattle.elf_objects.specs.declared.fault.Fault.{Fault}
@@ -16,7 +16,7 @@ use Rattle.polkatool_cmd.specs.declared.answer.Answer.{Answer}
 use Rattle.polkatool_cmd.specs.declared.answer.Answer.TheVariants as answers
 use Rattle.polkatool_cmd.specs.Faults.{first_fault, too_large}
 use Rattle.polkatool_cmd.specs.RunFaults.{first_run_fault}
-use Rattle.polkatool_cmd.specs.Answers.{World, HasFault, HoldsRun, RunComesTo}
+use Rattle.polkatool_cmd.specs.Answers.{World, Holds, HasFault, HoldsRun, RunComesTo}
 use Rattle.polkatool_cmd.specs.Running.{Tells, end_of}
 
 long_file : (n : ℕ) → (file : List ℕ) × (length file ≡ n)
@@ -28,8 +28,9 @@ pub first_fault-long : (file : List ℕ) → 2 ^ 24 < length file → first_faul
 first_fault-long file long = rw (lt-ltb (2 ^ 24) (length file) long) refl
 
 -- and so has a blob's
-pub first_run_fault-long : (file : List ℕ) → 2 ^ 27 < length file → first_run_fault file ≡ Some too_large
-first_run_fault-long file long = rw (lt-ltb (2 ^ 27) (length file) long) refl
+pub first_run_fault-long :
+    (entry : ℕ) (file : List ℕ) → 2 ^ 27 < length file → first_run_fault entry file ≡ Some too_large
+first_run_fault-long entry file long = rw (lt-ltb (2 ^ 27) (length file) long) refl
 
 read_too_large : (first_of : List ℕ → Option Fault) (limit : ℕ) → ((file : List ℕ) → limit < length file → first_of file ≡ Some too_large) → (files : Option Files) (name : List ℕ) → AnswersRead files name limit (Err TooLarge) → HasFault first_of files name (Some too_large)
 read_too_large first_of limit is_first None name answer =
@@ -49,14 +50,38 @@ held-read None name limit bytes answer = tt
 held-read (Some files) name limit bytes answer = answer.0
 
 -- a run whose transcript was told on out, with nothing else changed, is what the run comes to
-pub RunComesTo-told : (gas : ℕ) (blob : List ℕ) (run : Paid Event End) (answer : Answer) (old new : World) → HoldsRun old.files gas blob run → Tells run answer (record { text = old.out; puts = old.puts }) (record { text = new.out; puts = new.puts }) → new ≡ record old { out = new.out; puts = new.puts } → RunComesTo gas blob answer old new
-RunComesTo-told gas blob run answers.Done old new holds told others = record { run = run; is_run = holds; ended = told.ended; told = told.told; others = others ∙ ap (λ puts. record old { out = new.out; puts = puts }) told.puts }
-RunComesTo-told gas blob run answers.Panicked old new holds told others = record { run = run; is_run = holds; ended = told.ended; told = told.told; others = others ∙ ap (λ puts. record old { out = new.out; puts = puts }) told.puts }
-RunComesTo-told gas blob run answers.OutOfGas old new holds told others = record { run = run; is_run = holds; ended = told.ended; told = told.told; others = others ∙ ap (λ puts. record old { out = new.out; puts = puts }) told.puts }
-RunComesTo-told gas blob run (answers.Refused fault) old new holds told others = absurd told
-RunComesTo-told gas blob run answers.Usage old new holds told others = absurd told
-RunComesTo-told gas blob run answers.FileFault old new holds told others = inr (record { run = run; is_run = holds; told = told.told; cause = told.cause; others = others })
-RunComesTo-told gas blob run answers.Memory old new holds told others = absurd told
+pub RunComesTo-told :
+    (entry gas : ℕ) (blob : List ℕ) (run : Paid Event End) (answer : Answer) (old new : World)
+    → HoldsRun old.files entry gas blob run
+    → Tells run answer (record { text = old.out; puts = old.puts }) (record { text = new.out; puts = new.puts })
+    → new ≡ record old { out = new.out; puts = new.puts }
+    → RunComesTo entry gas blob answer old new
+RunComesTo-told entry gas blob run answers.Done old new holds told others = record {
+  run = run;
+  is_run = holds;
+  ended = told.ended;
+  told = told.told;
+  others = others ∙ ap (λ puts. record old { out = new.out; puts = puts }) told.puts;
+}
+RunComesTo-told entry gas blob run answers.Panicked old new holds told others = record {
+  run = run;
+  is_run = holds;
+  ended = told.ended;
+  told = told.told;
+  others = others ∙ ap (λ puts. record old { out = new.out; puts = puts }) told.puts;
+}
+RunComesTo-told entry gas blob run answers.OutOfGas old new holds told others = record {
+  run = run;
+  is_run = holds;
+  ended = told.ended;
+  told = told.told;
+  others = others ∙ ap (λ puts. record old { out = new.out; puts = puts }) told.puts;
+}
+RunComesTo-told entry gas blob run (answers.Refused fault) old new holds told others = absurd told
+RunComesTo-told entry gas blob run answers.Usage old new holds told others = absurd told
+RunComesTo-told entry gas blob run answers.FileFault old new holds told others =
+    inr (record { run = run; is_run = holds; told = told.told; cause = told.cause; others = others })
+RunComesTo-told entry gas blob run answers.Memory old new holds told others = absurd told
 
 -- what a run came to, where its answer is one that is given so far
 pub run_of-exit : (old new : Machine) (e : Exit) → IsRun old new (last_answer e) → IsGivenSoFar (last_answer e) → run_of old ≡ record { events = []; end = end_of e new.state; left = new.gas; begun = old.gas - new.gas }

@@ -1,8 +1,7 @@
 -- The container of straight code from its parts.
 use Rattle.std.proofs.Common.{◌≡◌, ℕ, ◌<◌, ◌^◌, List, [], length, sym, ap, ◌∙◌, subst}
-use Rattle.jump_table.specs.Assembly.{spelled}
 use Rattle.pvm_ops.specs.Listing.{packed}
-use Rattle.blob_codec.specs.Grammar.{Program, IsProgram, HoldsProgram, IsContainer, program_with, program_bytes, spelled_container, container_bytes}
+use Rattle.blob_codec.specs.Grammar.{Program, IsProgram, IsContainer, program_with, program_bytes, spelled_container, container_bytes}
 use Rattle.polkatool_cmd.specs.Straight.{straight_instrs, straight_container, default_stack}
 use Rattle.polkatool_cmd.specs.Assembling.{Marked, empty, append}
 

@@ -1,10 +1,10 @@
 -- Numbers in decimal digits.
-use Rattle.std.proofs.Common.{◌≡◌, ℕ, suc, ◌<◌, length, drop, get_or, add-one, drop-cons, ◌+◌, ◌-◌, ◌*◌, ◌^◌, ◌≤◌, List, [], ◌∷◌, Bool, true, false, Option, Some, None, cond, refl, sym, ap, ◌∙◌, arith}
+use Rattle.std.proofs.Common.{◌≡◌, ℕ, suc, ◌<◌, length, drop, get_or, add-one, drop-cons, ◌+◌, ◌-◌, ◌*◌, ◌^◌, ◌≤◌, List, [], ◌∷◌, true, false, Some, None, refl, ap, ◌∙◌, arith}
 use Rattle.std.proofs.lemmas.Bool.Decides.{nat_tests}
 use Rattle.std.proofs.lemmas.List.{drop_all}
 use Rattle.std.specs.Prelude.{nat_lt}
 use Rattle.std.specs.Char.{is_ascii_digit}
-use Rattle.polkatool_cmd.specs.Commands.{digits_behind, word_in}
+use Rattle.polkatool_cmd.specs.Commands.{digits_behind, below}
 
 -- a digit more
 pub digits_behind-digit : (n b : ℕ) (bs : List ℕ) → is_ascii_digit b ≡ true → digits_behind n (b ∷ bs) ≡ digits_behind (10 * n + (b - 48)) bs
@@ -20,18 +20,18 @@ pub digits_behind-nil : (n : ℕ) → digits_behind n [] ≡ Some n
 unfolding digits_behind
 digits_behind-nil n = refl
 
-word_in-large : (n : ℕ) → 2 ^ 64 ≤ n → word_in (Some n) ≡ None
-word_in-large n large =
+below-large : (n : ℕ) → 2 ^ 64 ≤ n → below (2 ^ 64) (Some n) ≡ None
+below-large n large =
     let test : nat_lt n (2 ^ 64) ≡ false = grind (arith, nat_tests) in
     rw test refl
 
 -- from a number that is too large digits make no smaller one
-pub digits_behind-large : (n : ℕ) (bs : List ℕ) → 2 ^ 64 ≤ n → word_in (digits_behind n bs) ≡ None
-digits_behind-large n [] large = ap word_in (digits_behind-nil n) ∙ word_in-large n large
+pub digits_behind-large : (n : ℕ) (bs : List ℕ) → 2 ^ 64 ≤ n → below (2 ^ 64) (digits_behind n bs) ≡ None
+digits_behind-large n [] large = ap (below (2 ^ 64)) (digits_behind-nil n) ∙ below-large n large
 digits_behind-large n (b ∷ bs) large =
-    elim (is_ascii_digit b) as (λ t. is_ascii_digit b ≡ t → word_in (digits_behind n (b ∷ bs)) ≡ None) [
-      | true ↦ λ digit. ap word_in (digits_behind-digit n b bs digit) ∙ digits_behind-large (10 * n + (b - 48)) bs (omega arith)
-      | false ↦ λ other. ap word_in (digits_behind-other n b bs other)
+    elim (is_ascii_digit b) as (λ t. is_ascii_digit b ≡ t → below (2 ^ 64) (digits_behind n (b ∷ bs)) ≡ None) [
+      | true ↦ λ digit. ap (below (2 ^ 64)) (digits_behind-digit n b bs digit) ∙ digits_behind-large (10 * n + (b - 48)) bs (omega arith)
+      | false ↦ λ other. ap (below (2 ^ 64)) (digits_behind-other n b bs other)
     ] refl
 
 -- a digit at a place of a word
@@ -43,7 +43,7 @@ pub digits_behind-other_at : (n i : ℕ) (word : List ℕ) → i < length word �
 digits_behind-other_at n i word within other = rw (drop-cons word i 0) (digits_behind-other n (get_or word i 0) (drop (suc i) word) other)
 
 -- the end of the word
-pub digits_behind-end : (n i : ℕ) (word : List ℕ) → length word ≤ i → n < 2 ^ 64 → word_in (digits_behind n (drop i word)) ≡ Some n
+pub digits_behind-end : (n i : ℕ) (word : List ℕ) → length word ≤ i → n < 2 ^ 64 → below (2 ^ 64) (digits_behind n (drop i word)) ≡ Some n
 digits_behind-end n i word past small =
     let test : nat_lt n (2 ^ 64) ≡ true = grind (arith, nat_tests) in
-    ap (λ rest. word_in (digits_behind n rest)) (drop_all i word past) ∙ ap word_in (digits_behind-nil n) ∙ rw test refl
+    ap (λ rest. below (2 ^ 64) (digits_behind n rest)) (drop_all i word past) ∙ ap (below (2 ^ 64)) (digits_behind-nil n) ∙ rw test refl

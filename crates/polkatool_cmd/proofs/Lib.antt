@@ -1,7 +1,8 @@
 mod Names
+mod Naming
+mod Data
 mod Digits
 mod Fronts
-mod Opcodes
 mod Zeros
 mod Packing
 mod Placing

@@ -1,6 +1,5 @@
 -- Words that name files.
-use Rattle.std.proofs.Common.{◌≡◌, ℕ, ◌<◌, List, [], ◌∷◌, length, Bool, true, false, Some, refl, arith}
-use Rattle.std.specs.Prelude.{slice_get}
+use Rattle.std.proofs.Common.{◌≡◌, ℕ, ◌<◌, List, [], ◌∷◌, length, Bool, true, false, refl, arith}
 use Rattle.std.specs.Str.{is_utf8, IsUtf8}
 use Rattle.std.proofs.lemmas.Str.{IsUtf8-from_is_utf8, is_utf8-from_IsUtf8}
 use Rattle.polkatool_cmd.specs.Commands.{is_name}
@@ -18,12 +17,3 @@ false_unless false h = refl
 pub is_name-other : (word : List ℕ) → (IsUtf8 word → ⊥) → is_name word ≡ false
 is_name-other [] h = refl
 is_name-other (b ∷ bs) h = false_unless (is_utf8 (b ∷ bs)) (λ e. h (IsUtf8-from_is_utf8 (b ∷ bs) e))
-
--- a list of four words is made of these
-pub four_words : (xs : List (List ℕ)) (a b c d : List ℕ) → length xs ≡ 4 → slice_get xs 0 ≡ Some a → slice_get xs 1 ≡ Some b → slice_get xs 2 ≡ Some c → slice_get xs 3 ≡ Some d → xs ≡ a ∷ b ∷ c ∷ d ∷ []
-four_words [] a b c d l e f g h = absurd (omega arith)
-four_words (w ∷ []) a b c d l e f g h = absurd (omega arith)
-four_words (w ∷ x ∷ []) a b c d l e f g h = absurd (omega arith)
-four_words (w ∷ x ∷ y ∷ []) a b c d l e f g h = absurd (omega arith)
-four_words (w ∷ x ∷ y ∷ z ∷ []) a b c d l e f g h = cc
-four_words (w ∷ x ∷ y ∷ z ∷ v ∷ rest) a b c d l e f g h = absurd (omega arith)

@@ -1,15 +1,16 @@
 -- What a command comes to, and how that is told.
-use Rattle.std.specs.Prelude.{◌≡◌, ◌⊎◌, ℕ, List, [], Option, Some, None}
+use Rattle.std.specs.Prelude.{◌≡◌, ◌⊎◌, ℕ, List, [], Option, Some, None, Ok}
 use Rattle.std.specs.Io.KnownBytes.{Appends}
-use Rattle.outside.specs.Outside.{Files, Rose, Missing, AppendsFront, KeepsOthers, AnswersWrite as Holds}
+use Rattle.outside.specs.Outside.{Files, Rose, Missing, AppendsFront, KeepsOthers, AnswersWrite}
 use Rattle.elf_objects.specs.declared.fault.Fault.{Fault}
 use Rattle.runs.specs.Runs.{Paid}
 use Rattle.machine_state.specs.Ends.{Event, End}
 use Rattle.blob_codec.specs.Grammar.{Container}
+use Rattle.blob_codec.specs.Reading.{container_of}
 use Rattle.link_core.specs.Runs.{machine_run}
 use Rattle.polkatool_cmd.specs.Commands.{Command, Link, Run}
 use Rattle.polkatool_cmd.specs.Faults.{first_fault, Links}
-use Rattle.polkatool_cmd.specs.RunFaults.{runnable_in, first_run_fault}
+use Rattle.polkatool_cmd.specs.RunFaults.{first_run_fault}
 use Rattle.polkatool_cmd.specs.Transcript.{transcript}
 use Rattle.polkatool_cmd.specs.Statuses.{status_of}
 use Rattle.polkatool_cmd.specs.Lines.{map_text, usage_line, file_fault_line, memory_line, refused_line}
@@ -26,13 +27,18 @@ pub record World : Type 0 where
   pub out : Option (List ℕ)
   pub puts : ℕ
 
--- What err tells, and how many puts on it the outside has failed.
-pub record Errors : Type 0 where
+-- What a stream tells, out or err, and how many puts on it the outside has failed.
+pub record Stream : Type 0 where
   pub text : Option (List ℕ)
   pub puts : ℕ
 
+-- the name holds these bytes, where files are told: as after a write that succeeded
+abbrev pub Holds : Option Files → List ℕ → List ℕ → Type 0
+Holds = AnswersWrite
+
 -- the name holds a file, where files are told, and its first fault is this one, or it has none
-pub record HasFault (first_of : List ℕ → Option Fault) (files : Option Files) (name : List ℕ) (fault : Option Fault) : Type 0 where
+pub record HasFault (first_of : List ℕ → Option Fault) (files : Option Files) (name : List ℕ) (fault : Option Fault)
+    : Type 0 where
   pub file : List ℕ
   pub held : Holds files name file
   pub first : first_of file ≡ fault
@@ -73,72 +79,78 @@ pub record FailedPut (output object : List ℕ) (old new : World) : Type 0 where
 -- put failed; or memory was refused. After a refusal and after want of memory all is as before.
 abbrev pub LinkComesTo : List ℕ → List ℕ → Answer → World → World → Type 0
 LinkComesTo output object answers.Done old new = HasLinked output object old new
-LinkComesTo output object (answers.Refused fault) old new = HasFault first_fault old.files object (Some fault) × (new ≡ old)
+LinkComesTo output object (answers.Refused fault) old new =
+    HasFault first_fault old.files object (Some fault) × (new ≡ old)
 LinkComesTo output object answers.Panicked old new = ⊥
 LinkComesTo output object answers.OutOfGas old new = ⊥
 LinkComesTo output object answers.Usage old new = ⊥
-LinkComesTo output object answers.FileFault old new = FailedRead object old new ⊎ (FailedWrite object old new ⊎ FailedPut output object old new)
+LinkComesTo output object answers.FileFault old new =
+    FailedRead object old new ⊎ (FailedWrite object old new ⊎ FailedPut output object old new)
 LinkComesTo output object answers.Memory old new = new ≡ old
 
--- the name holds a container without a fault, and this is its run at entry 0, without an argument and with so much gas
-pub record HoldsRun (files : Option Files) (gas : ℕ) (blob : List ℕ) (run : Paid Event End) : Type 0 where
+-- The name holds a container without a fault at the entry, and this is its run from there, without an argument and with
+-- so much gas.
+pub record HoldsRun (files : Option Files) (entry gas : ℕ) (blob : List ℕ) (run : Paid Event End) : Type 0 where
   pub file : List ℕ
   pub container : Container
   pub held : Holds files blob file
-  pub no_fault : first_run_fault file ≡ None
-  pub is_container : runnable_in file ≡ Some container
-  pub run_is : run ≡ machine_run container 0 [] gas
+  pub no_fault : first_run_fault entry file ≡ None
+  pub is_container : container_of file ≡ Ok container
+  pub run_is : run ≡ machine_run container entry [] gas
 
 -- The run ended with this status, and its transcript was put; all else is as before.
-pub record HasRun (gas : ℕ) (blob : List ℕ) (status : Status) (old new : World) : Type 0 where
+pub record HasRun (entry gas : ℕ) (blob : List ℕ) (status : Status) (old new : World) : Type 0 where
   pub run : Paid Event End
-  pub is_run : HoldsRun old.files gas blob run
+  pub is_run : HoldsRun old.files entry gas blob run
   pub ended : status_of run.end ≡ status
   pub told : Appends old.out new.out (transcript run)
   pub others : new ≡ record old { out = new.out }
 
 -- A put of the run's transcript failed after a front of it; all else is as before.
-pub record FailedTranscript (gas : ℕ) (blob : List ℕ) (old new : World) : Type 0 where
+pub record FailedTranscript (entry gas : ℕ) (blob : List ℕ) (old new : World) : Type 0 where
   pub run : Paid Event End
-  pub is_run : HoldsRun old.files gas blob run
+  pub is_run : HoldsRun old.files entry gas blob run
   pub told : AppendsFront old.out new.out (transcript run)
   pub cause : Rose old.puts new.puts
   pub others : new ≡ record old { out = new.out; puts = new.puts }
 
 -- What a run comes to: it ended, as the answer says, and is told; or it is refused with the first fault of the blob's
--- file; or a read or a put failed; or memory was refused. After a refusal and after want of memory all is as before.
-abbrev pub RunComesTo : ℕ → List ℕ → Answer → World → World → Type 0
-RunComesTo gas blob answers.Done old new = HasRun gas blob statuses.Done old new
-RunComesTo gas blob answers.Panicked old new = HasRun gas blob statuses.Panicked old new
-RunComesTo gas blob answers.OutOfGas old new = HasRun gas blob statuses.OutOfGas old new
-RunComesTo gas blob (answers.Refused fault) old new = HasFault first_run_fault old.files blob (Some fault) × (new ≡ old)
-RunComesTo gas blob answers.Usage old new = ⊥
-RunComesTo gas blob answers.FileFault old new = FailedRead blob old new ⊎ FailedTranscript gas blob old new
-RunComesTo gas blob answers.Memory old new = new ≡ old
+-- file at the entry; or a read or a put failed; or memory was refused. After a refusal and after want of memory all is
+-- as before.
+abbrev pub RunComesTo : ℕ → ℕ → List ℕ → Answer → World → World → Type 0
+RunComesTo entry gas blob answers.Done old new = HasRun entry gas blob statuses.Done old new
+RunComesTo entry gas blob answers.Panicked old new = HasRun entry gas blob statuses.Panicked old new
+RunComesTo entry gas blob answers.OutOfGas old new = HasRun entry gas blob statuses.OutOfGas old new
+RunComesTo entry gas blob (answers.Refused fault) old new =
+    HasFault (first_run_fault entry) old.files blob (Some fault) × (new ≡ old)
+RunComesTo entry gas blob answers.Usage old new = ⊥
+RunComesTo entry gas blob answers.FileFault old new =
+    FailedRead blob old new ⊎ FailedTranscript entry gas blob old new
+RunComesTo entry gas blob answers.Memory old new = new ≡ old
 
 -- What the words come to: a faulty command line is answered as one, and all is as before.
 abbrev pub ComesTo : Option Command → Answer → World → World → Type 0
 ComesTo None answer old new = (answer ≡ answers.Usage) × (new ≡ old)
 ComesTo (Some (Link output object)) answer old new = LinkComesTo output object answer old new
-ComesTo (Some (Run gas blob)) answer old new = RunComesTo gas blob answer old new
+ComesTo (Some (Run entry gas blob)) answer old new = RunComesTo entry gas blob answer old new
 
 -- the line was put on err, and the status is the wanted one
-pub record IsPut (line : List ℕ) (wanted status : Status) (old new : Errors) : Type 0 where
+pub record IsPut (line : List ℕ) (wanted status : Status) (old new : Stream) : Type 0 where
   pub status_is : status ≡ wanted
   pub put : Appends old.text new.text line
   pub others : new.puts ≡ old.puts
 
 -- the put failed after a front of the line, and the status is that of a file fault
-pub record IsNotPut (line : List ℕ) (status : Status) (old new : Errors) : Type 0 where
+pub record IsNotPut (line : List ℕ) (status : Status) (old new : Stream) : Type 0 where
   pub status_is : status ≡ statuses.FileFault
   pub put : AppendsFront old.text new.text line
   pub cause : Rose old.puts new.puts
 
-abbrev pub Puts : List ℕ → Status → Status → Errors → Errors → Type 0
+abbrev pub Puts : List ℕ → Status → Status → Stream → Stream → Type 0
 Puts line wanted status old new = IsPut line wanted status old new ⊎ IsNotPut line status old new
 
 -- how an answer is told: by its status and its line on err, if it has one
-abbrev pub Reports : Answer → Status → Errors → Errors → Type 0
+abbrev pub Reports : Answer → Status → Stream → Stream → Type 0
 Reports answers.Done status old new = (status ≡ statuses.Done) × (new ≡ old)
 Reports answers.Panicked status old new = (status ≡ statuses.Panicked) × (new ≡ old)
 Reports answers.OutOfGas status old new = (status ≡ statuses.OutOfGas) × (new ≡ old)
@@ -148,7 +160,7 @@ Reports answers.FileFault status old new = Puts file_fault_line statuses.FileFau
 Reports answers.Memory status old new = Puts memory_line statuses.Memory status old new
 
 -- What the words come to is told.
-pub record Concludes (command : Option Command) (status : Status) (old new : World) (err err' : Errors) : Type 0 where
+pub record Concludes (command : Option Command) (status : Status) (old new : World) (err err' : Stream) : Type 0 where
   pub answer : Answer
   pub comes : ComesTo command answer old new
   pub reports : Reports answer status err err'
@@ -157,4 +169,4 @@ pub record Concludes (command : Option Command) (status : Status) (old new : Wor
 abbrev pub KeepsFiles : Option Command → Option Files → Option Files → Type 0
 KeepsFiles None old new = new ≡ old
 KeepsFiles (Some (Link output object)) old new = KeepsOthers output old new
-KeepsFiles (Some (Run gas blob)) old new = new ≡ old
+KeepsFiles (Some (Run entry gas blob)) old new = new ≡ old

@@ -1,15 +1,17 @@
 -- What a list of words asks for. Whether the words are a command is a question about the words alone.
-use Rattle.std.specs.Prelude.{ℕ, ◌+◌, ◌-◌, ◌*◌, ◌^◌, List, [], ◌∷◌, Bool, true, false, ◌&&◌, not, ◌==◌, nat_lt, if◌then◌else◌, Option, Some, None, codes}
+use Rattle.std.specs.Prelude.{ℕ, ◌+◌, ◌-◌, ◌*◌, ◌^◌, List, [], ◌∷◌, Bool, false, ◌&&◌, not, ◌==◌, nat_lt, if◌then◌else◌, Option, Some, None, codes}
 use Rattle.std.specs.Char.{is_ascii_digit}
 use Rattle.std.specs.Str.{is_utf8, bytes_eq}
+use Rattle.std.specs.Option.{option_map, option_copied, unwrap_or}
 use Rattle.polkatool_cmd.specs.declared.commands.Command.{Command as Asked}
 use Rattle.polkatool_cmd.specs.declared.commands.Command.TheVariants as asked
+use Rattle.polkatool_cmd.specs.declared.run_words.RunWords.{RunWords as Read}
 
 -- A command with its values: to link the object of one name into the output of another, and to run the blob of a name
--- with so much gas.
+-- from an entry with so much gas.
 pub data Command : Type 0 where
   Link : (output object : List ℕ) → Command
-  Run : (gas : ℕ) (blob : List ℕ) → Command
+  Run : (entry gas : ℕ) (blob : List ℕ) → Command
 
 -- a word that names a file: it is not empty, and UTF-8
 abbrev pub is_name : List ℕ → Bool
@@ -25,45 +27,105 @@ begins_with_dash (b ∷ bs) = b == 45
 abbrev pub is_file : List ℕ → Bool
 is_file word = is_name word && not (begins_with_dash word)
 
--- the link of two words, where the first names a file and the second does and is no option
-abbrev pub link_of : List ℕ → List ℕ → Option Command
-link_of output object = if is_name output && is_file object then Some (Link output object) else None
-
 -- the number that decimal digits spell behind a number, where all bytes are digits
 unfoldable pub digits_behind : ℕ → List ℕ → Option ℕ
 digits_behind n [] = Some n
 digits_behind n (b ∷ bs) = if is_ascii_digit b then digits_behind (10 * n + (b - 48)) bs else None
 
--- a number below 2^64
-abbrev pub word_in : Option ℕ → Option ℕ
-word_in None = None
-word_in (Some n) = if nat_lt n (2 ^ 64) then Some n else None
+-- a number below a bound
+abbrev pub below : ℕ → Option ℕ → Option ℕ
+below bound None = None
+below bound (Some n) = if nat_lt n bound then Some n else None
 
--- The number that a word spells: decimal digits without a leading zero, but for 0 itself, below 2^64.
-abbrev pub number_of : List ℕ → Option ℕ
-number_of [] = None
-number_of (b ∷ []) = word_in (digits_behind 0 (b ∷ []))
-number_of (b ∷ c ∷ bs) = if b == 48 then None else word_in (digits_behind 0 (b ∷ c ∷ bs))
+-- The number below a bound that a word spells: decimal digits without a leading zero, but for 0 itself.
+abbrev pub number_below : ℕ → List ℕ → Option ℕ
+number_below bound [] = None
+number_below bound (b ∷ []) = below bound (digits_behind 0 (b ∷ []))
+number_below bound (b ∷ c ∷ bs) = if b == 48 then None else below bound (digits_behind 0 (b ∷ c ∷ bs))
 
--- the gas of a run, where the words name none
+-- the link of the words -o OUT OBJ
+abbrev pub link_of : List (List ℕ) → Option Command
+link_of (option ∷ output ∷ object ∷ []) =
+    if bytes_eq option (codes "-o") && (is_name output && is_file object) then Some (Link output object) else None
+link_of words = None
+
+-- what words of a run have named so far
+pub record RunWords : Type 0 where
+  pub entry : Option ℕ
+  pub gas : Option ℕ
+  pub blob : Option (List ℕ)
+
+abbrev pub no_words : RunWords
+no_words = record { entry = None; gas = None; blob = None }
+
+-- a value where none is named so far: each is named at most once
+abbrev pub once : {A : Type 0} → Option A → Option A → Option A
+once None value = value
+once (Some earlier) value = None
+
+-- an entry, which is below 2^32
+abbrev pub with_entry : RunWords → List ℕ → Option RunWords
+with_entry words value =
+    option_map (λ entry. record words { entry = Some entry }) (once words.entry (number_below (2 ^ 32) value))
+
+-- gas, which is below 2^64
+abbrev pub with_gas : RunWords → List ℕ → Option RunWords
+with_gas words value =
+    option_map (λ gas. record words { gas = Some gas }) (once words.gas (number_below (2 ^ 64) value))
+
+-- An option with its value behind what is named so far. None where it is no option of a run, where it is repeated, and
+-- where its value is outside its grammar.
+abbrev pub with_option : RunWords → List ℕ → List ℕ → Option RunWords
+with_option words option value =
+    if bytes_eq option (codes "--entry") then with_entry words value
+    else (if bytes_eq option (codes "--gas") then with_gas words value
+    else None)
+
+-- the name of a file that a word is
+abbrev pub file_of : List ℕ → Option (List ℕ)
+file_of word = if is_file word then Some word else None
+
+-- a file behind what is named so far, at most one
+abbrev pub with_file : RunWords → List ℕ → Option RunWords
+with_file words file = option_map (λ blob. record words { blob = Some blob }) (once words.blob (file_of file))
+
+-- What words name behind what is named so far, from left to right: a word that begins with '-' is an option, and the
+-- next word, which must be there, its value; any other is a file. None where one of them is faulty.
+unfoldable pub run_words : Option RunWords → List (List ℕ) → Option RunWords
+run_words None rest = None
+run_words (Some words) [] = Some words
+run_words (Some words) (word ∷ []) = if begins_with_dash word then None else with_file words word
+run_words (Some words) (word ∷ next ∷ rest) =
+    if begins_with_dash word then run_words (with_option words word next) rest
+    else run_words (with_file words word) (next ∷ rest)
+
+-- the entry and the gas of a run, where the words name none
+abbrev pub default_entry : ℕ
+default_entry = 0
+
 abbrev pub default_gas : ℕ
 default_gas = 10000000
 
--- the run of a word with the gas, where there is one and the word names a file and is no option
-abbrev pub run_of : Option ℕ → List ℕ → Option Command
-run_of None blob = None
-run_of (Some gas) blob = if is_file blob then Some (Run gas blob) else None
+-- the run of what the words name, where they name a blob
+abbrev pub run_of : Option RunWords → Option Command
+run_of None = None
+run_of (Some words) =
+    option_map (Run (unwrap_or words.entry default_entry) (unwrap_or words.gas default_gas)) words.blob
 
--- The command that the words are: link -o OUT OBJ, or run BLOB, or run --gas N BLOB. None where they are a faulty command
--- line.
+-- The command that the words are: link -o OUT OBJ, or run and in any order a BLOB, --entry I and --gas N. None where
+-- they are a faulty command line.
 abbrev pub command_of : List (List ℕ) → Option Command
-command_of (verb ∷ blob ∷ []) = if bytes_eq verb (codes "run") then run_of (Some default_gas) blob else None
-command_of (verb ∷ option ∷ value ∷ file ∷ []) =
-    if bytes_eq verb (codes "link") && bytes_eq option (codes "-o") then link_of value file
-    else (if bytes_eq verb (codes "run") && bytes_eq option (codes "--gas") then run_of (number_of value) file else None)
-command_of words = None
+command_of [] = None
+command_of (verb ∷ words) =
+    if bytes_eq verb (codes "link") then link_of words
+    else (if bytes_eq verb (codes "run") then run_of (run_words (Some no_words) words)
+    else None)
 
 -- the command that was asked for
 abbrev pub command_in : Asked → Command
 command_in (asked.Link c) = Link c.output.now c.object.now
-command_in (asked.Run c) = Run c.gas c.blob.now
+command_in (asked.Run c) = Run c.entry c.gas c.blob.now
+
+-- what was read so far
+abbrev pub words_in : Read → RunWords
+words_in words = record { entry = words.entry; gas = words.gas; blob = option_copied words.blob }

@@ -20,9 +20,14 @@ memory_line = codes "polkatool: out of memory\n"
 -- the name of a fault's code
 abbrev pub name_of : ℕ → List ℕ
 name_of code =
-    if code == 47 then codes "BadEntry"
+    if code == 40 then codes "Truncated"
+    else (if code == 41 then codes "Overlong"
+    else (if code == 42 then codes "BadWidth"
+    else (if code == 43 then codes "BadPadding"
+    else (if code == 44 then codes "LeftOver"
+    else (if code == 47 then codes "BadEntry"
     else (if code == 61 then codes "FileTooLarge"
-    else codes "NotBuilt")
+    else codes "NotBuilt"))))))
 
 -- a label and a number in decimal
 abbrev pub field : List ℕ → ℕ → List ℕ

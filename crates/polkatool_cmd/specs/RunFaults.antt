@@ -1,58 +1,68 @@
 -- Why what a file holds isn't run.
-use Rattle.std.specs.Prelude.{ℕ, ◌^◌, List, [], ◌∷◌, length, Bool, not, ◌&&◌, ◌==◌, nat_lt, nat_eq, if◌then◌else◌, Option, Some, None, Result, Ok, Err, slice_index}
+use Rattle.std.specs.Prelude.{ℕ, ◌*◌, ◌^◌, List, [], ◌∷◌, length, Bool, not, ◌&&◌, ◌==◌, nat_lt, nat_le, Option, Some, Result, Ok, Err, slice_index}
 use Rattle.std.specs.List.{list_any}
-use Rattle.elf_objects.specs.Reading.{not_built}
+use Rattle.std.specs.Option.{option_map}
+use Rattle.faults.specs.First.{◌or_else◌, where_true, least_below}
 use Rattle.elf_objects.specs.declared.fault.Fault.{Fault}
 use Rattle.pvm_ops.specs.Listing.{Listing, is_marked}
-use Rattle.blob_check.specs.Starts.{any_below, is_start}
+use Rattle.blob_check.specs.Starts.{is_start}
 use Rattle.blob_codec.specs.declared.fault.BlobFault.{BlobFault}
+use Rattle.blob_codec.specs.declared.fault.BlobFault.TheVariants.{Truncated, Overlong, BadWidth, BadPadding, LeftOver}
 use Rattle.blob_codec.specs.Grammar.{Container}
 use Rattle.blob_codec.specs.Reading.{container_of}
 use Rattle.polkatool_cmd.specs.Faults.{too_large}
 
--- no block starts where the entry's jump is to stand: code 47, with all fields 0
-abbrev pub bad_entry : Fault
-bad_entry = record { code = 47; object = 0; section = 0; offset = 0 }
+-- a fault of a blob, at an offset that the code gives a meaning: all other fields are 0
+abbrev pub blob_fault_at : ℕ → ℕ → Fault
+blob_fault_at code offset = record { code = code; object = 0; section = 0; offset = offset }
 
--- the opcodes that are run so far
-abbrev pub built_opcodes : List ℕ
-built_opcodes = 0 ∷ 1 ∷ 40 ∷ 50 ∷ 51 ∷ 100 ∷ 149 ∷ []
+-- a fault of a blob as a whole: all fields are 0
+abbrev pub blob_fault : ℕ → Fault
+blob_fault code = blob_fault_at code 0
 
-abbrev pub is_built : ℕ → Bool
-is_built op = list_any (λ built. nat_eq built op) built_opcodes
+-- the code of what keeps bytes from being a container
+abbrev pub code_of : BlobFault → ℕ
+code_of Truncated = 40
+code_of Overlong = 41
+code_of BadWidth = 42
+code_of BadPadding = 43
+code_of LeftOver = 44
 
--- an instruction of another opcode is marked at the position
-abbrev pub is_other : Listing → ℕ → Bool
-is_other code at = is_marked code at && not (is_built (slice_index code.bytes at))
+-- the opcodes that aren't run so far, from the first to the last of each range
+abbrev pub unbuilt_opcodes : List (ℕ × ℕ)
+unbuilt_opcodes = (10, 10) ∷ (30, 33) ∷ (52, 62) ∷ (70, 73) ∷ (101, 101) ∷ (120, 130) ∷ []
 
--- no instruction of another opcode is marked
-abbrev pub has_no_other : Listing → Bool
-has_no_other code = not (any_below (is_other code) (length code.bytes))
+abbrev pub is_unbuilt : ℕ → Bool
+is_unbuilt op = list_any (λ range. nat_le range.0 op && nat_le op range.1) unbuilt_opcodes
 
--- the containers that are run so far: without data, zero pages and a jump table, of the built opcodes
-abbrev pub is_runnable : Container → Bool
-is_runnable c =
-    length c.read_only == 0
-    && (length c.writable == 0
-    && (c.zero_pages == 0
-    && (length c.program.table == 0
-    && has_no_other c.program.code)))
+-- an instruction that isn't run so far is marked at the position
+abbrev pub is_unbuilt_at : Listing → ℕ → Bool
+is_unbuilt_at code at = is_marked code at && is_unbuilt (slice_index code.bytes at)
 
--- what was read, where it is run so far
-abbrev pub runnable : Result Container BlobFault → Option Container
-runnable (Ok c) = if is_runnable c then Some c else None
-runnable (Err fault) = None
+-- the container has data or zero pages, which aren't built so far
+abbrev pub has_data : Container → Bool
+has_data c = not (length c.read_only == 0 && (length c.writable == 0 && c.zero_pages == 0))
 
--- the container that a file is, where it is one that is run so far
-abbrev pub runnable_in : List ℕ → Option Container
-runnable_in file = runnable (container_of file)
+-- The least form of a container that isn't built so far, code 63: its data, with all fields 0, and then the first
+-- instruction that isn't run, with its position as offset. None where the container can be run.
+abbrev pub unbuilt_form : Container → Option Fault
+unbuilt_form c =
+    where_true (has_data c) (blob_fault 63)
+    or_else option_map (blob_fault_at 63) (least_below (length c.program.code.bytes) (is_unbuilt_at c.program.code))
 
--- the fault of bytes that are no such container, or of its code at entry 0
-abbrev pub entry_fault : Option Container → Option Fault
-entry_fault None = Some (not_built 0)
-entry_fault (Some c) = if is_start c.program.code 0 then None else Some bad_entry
+-- no block starts where the jump of an entry is to stand: code 47
+abbrev pub entry_fault : ℕ → Container → Option Fault
+entry_fault entry c = where_true (not (is_start c.program.code (5 * entry))) (blob_fault 47)
 
--- The first fault of what a file holds, in this order: more than 2^27 bytes; no container that is run so far; no block
--- starts at position 0. None where there is no fault.
-abbrev pub first_run_fault : List ℕ → Option Fault
-first_run_fault file = if nat_lt (2 ^ 27) (length file) then Some too_large else entry_fault (runnable_in file)
+-- the fault of bytes that are no container, or of a container at an entry
+abbrev pub container_fault : ℕ → Result Container BlobFault → Option Fault
+container_fault entry (Err fault) = Some (blob_fault (code_of fault))
+container_fault entry (Ok c) = unbuilt_form c or_else entry_fault entry c
+
+-- The first fault of what a file holds, in this order: more than 2^27 bytes; no container, by the first fault that is
+-- met in reading it; a form that isn't built so far; no block starts where the jump of the entry is to stand. None where
+-- there is no fault.
+abbrev pub first_run_fault : ℕ → List ℕ → Option Fault
+first_run_fault entry file =
+    where_true (nat_lt (2 ^ 27) (length file)) too_large
+    or_else container_fault entry (container_of file)

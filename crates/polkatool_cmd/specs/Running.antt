@@ -1,41 +1,40 @@
 -- What the parts of a run come to.
-use Rattle.std.specs.Prelude.{◌≡◌, ℕ, List, [], Option, Some, None, replicate}
+use Rattle.std.specs.Prelude.{◌≡◌, ℕ, List, [], Option, Some, None, Ok, replicate}
 use Rattle.std.specs.Io.KnownBytes.{Appends}
 use Rattle.runs.specs.Runs.{Paid}
 use Rattle.machine_state.specs.Memory.{Memory}
 use Rattle.machine_state.specs.State.{State}
 use Rattle.machine_state.specs.Ends.{Event, End, Panic, Fault, Unanswered, halt}
 use Rattle.machine_state.specs.Output.{bytes_at}
-use Rattle.elf_objects.specs.Reading.{not_built}
 use Rattle.outside.specs.Outside.{Rose, AppendsFront}
 use Rattle.blob_codec.specs.Grammar.{Container}
+use Rattle.blob_codec.specs.Reading.{container_of}
 use Rattle.pvm_machine.specs.Machine.{Machine}
 use Rattle.pvm_machine.specs.Started.{started}
 use Rattle.pvm_machine.specs.declared.answers.Exit.{Exit}
 use Rattle.pvm_machine.specs.declared.answers.Exit.TheVariants as exit
-use Rattle.polkatool_cmd.specs.RunFaults.{runnable_in, first_run_fault, bad_entry}
+use Rattle.polkatool_cmd.specs.RunFaults.{first_run_fault}
 use Rattle.polkatool_cmd.specs.Transcript.{transcript}
 use Rattle.polkatool_cmd.specs.Statuses.{status_of}
-use Rattle.polkatool_cmd.specs.Answers.{Errors}
+use Rattle.polkatool_cmd.specs.Answers.{Stream}
 use Rattle.polkatool_cmd.specs.declared.answer.Answer.{Answer}
 use Rattle.polkatool_cmd.specs.declared.answer.Answer.TheVariants as answers
-use Rattle.polkatool_cmd.specs.declared.run.RunFault.{RunFault}
-use Rattle.polkatool_cmd.specs.declared.run.RunFault.TheVariants.{NotBuilt, BadEntry, Memory as NoMemory}
+use Rattle.polkatool_cmd.specs.declared.run_fault.RunFault.{RunFault}
+use Rattle.polkatool_cmd.specs.declared.run_fault.RunFault.TheVariants.{Bad, Memory as NoMemory}
 use Rattle.polkatool_cmd.specs.declared.status.Status.{Status}
 use Rattle.polkatool_cmd.specs.declared.status.Status.TheVariants as statuses
 
--- the file is a container without a fault, and the machine is at its start
-pub record Starts (file : List ℕ) (gas : ℕ) (m : Machine) : Type 0 where
+-- the file is a container without a fault, and the machine is at the start of the entry
+pub record Starts (file : List ℕ) (entry gas : ℕ) (m : Machine) : Type 0 where
   pub container : Container
-  pub no_fault : first_run_fault file ≡ None
-  pub is_container : runnable_in file ≡ Some container
-  pub machine_is : m ≡ started container 0 [] gas
+  pub no_fault : first_run_fault entry file ≡ None
+  pub is_container : container_of file ≡ Ok container
+  pub machine_is : m ≡ started container entry [] gas
 
 -- a program is not run because of the first fault of its file; memory may be refused at any time
-abbrev pub FailsToStart : List ℕ → RunFault → Type 0
-FailsToStart file NotBuilt = first_run_fault file ≡ Some (not_built 0)
-FailsToStart file BadEntry = first_run_fault file ≡ Some bad_entry
-FailsToStart file NoMemory = Unit {0}
+abbrev pub FailsToStart : List ℕ → ℕ → RunFault → Type 0
+FailsToStart file entry (Bad fault) = first_run_fault entry file ≡ Some fault
+FailsToStart file entry NoMemory = Unit {0}
 
 -- every byte that may be read is zero
 abbrev pub IsZero : Memory → Type 0
@@ -63,18 +62,18 @@ EndsAs answers.OutOfGas status = status ≡ statuses.OutOfGas
 EndsAs answer status = ⊥
 
 -- the run ended with the status, and its transcript was put
-pub record IsTold (run : Paid Event End) (status : Status) (old new : Errors) : Type 0 where
+pub record IsTold (run : Paid Event End) (status : Status) (old new : Stream) : Type 0 where
   pub ended : status_of run.end ≡ status
   pub told : Appends old.text new.text (transcript run)
   pub puts : new.puts ≡ old.puts
 
 -- a put failed after a front of the transcript
-pub record IsNotTold (run : Paid Event End) (old new : Errors) : Type 0 where
+pub record IsNotTold (run : Paid Event End) (old new : Stream) : Type 0 where
   pub told : AppendsFront old.text new.text (transcript run)
   pub cause : Rose old.puts new.puts
 
 -- how a run is told on a sink: by its whole transcript, or a put failed
-abbrev pub Tells : Paid Event End → Answer → Errors → Errors → Type 0
+abbrev pub Tells : Paid Event End → Answer → Stream → Stream → Type 0
 Tells run answers.Done old new = IsTold run statuses.Done old new
 Tells run answers.Panicked old new = IsTold run statuses.Panicked old new
 Tells run answers.OutOfGas old new = IsTold run statuses.OutOfGas old new

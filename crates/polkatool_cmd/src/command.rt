@@ -1,4 +1,4 @@
-ghost use Rattle.std.specs.Prelude.{◌≡◌, Some};
+ghost use Rattle.std.specs.Prelude.{Some};
 ghost use Rattle.outside.specs.Outside.{KeepsOthers};
 ghost use Rattle.polkatool_cmd.specs.Commands.{Link, command_of};
 ghost use Rattle.polkatool_cmd.specs.Answers.{ComesTo, KeepsFiles};
@@ -28,8 +28,20 @@ pub(crate) fn answer_to<F: Folder, O: Sink>(
     out: &mut O,
 ) -> Answer
     ensures comes { ComesTo (command_of words.now) result
-        (record { files = F.files files.old; reads = F.read_faults files.old; writes = F.write_faults files.old; out = O.bytes out.old; puts = O.faults out.old })
-        (record { files = F.files files.new; reads = F.read_faults files.new; writes = F.write_faults files.new; out = O.bytes out.new; puts = O.faults out.new }) }
+        (record {
+          files = F.files files.old;
+          reads = F.read_faults files.old;
+          writes = F.write_faults files.old;
+          out = O.bytes out.old;
+          puts = O.faults out.old;
+        })
+        (record {
+          files = F.files files.new;
+          reads = F.read_faults files.new;
+          writes = F.write_faults files.new;
+          out = O.bytes out.new;
+          puts = O.faults out.new;
+        }) }
     ensures others { KeepsFiles (command_of words.now) (F.files files.old) (F.files files.new) }
 {
     match command_of(words) {
@@ -47,8 +59,20 @@ fn link<F: Folder, O: Sink>(
     out: &mut O,
 ) -> Answer
     ensures comes { ComesTo (Some (Link command.now.output.now command.now.object.now)) result
-        (record { files = F.files files.old; reads = F.read_faults files.old; writes = F.write_faults files.old; out = O.bytes out.old; puts = O.faults out.old })
-        (record { files = F.files files.new; reads = F.read_faults files.new; writes = F.write_faults files.new; out = O.bytes out.new; puts = O.faults out.new }) }
+        (record {
+          files = F.files files.old;
+          reads = F.read_faults files.old;
+          writes = F.write_faults files.old;
+          out = O.bytes out.old;
+          puts = O.faults out.old;
+        })
+        (record {
+          files = F.files files.new;
+          reads = F.read_faults files.new;
+          writes = F.write_faults files.new;
+          out = O.bytes out.new;
+          puts = O.faults out.new;
+        }) }
     ensures others { KeepsOthers command.now.output.now (F.files files.old) (F.files files.new) }
 {
     let file = match files.read(alloc, command.object, OBJECT_LIMIT) {

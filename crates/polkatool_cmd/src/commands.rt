@@ -12,9 +12,10 @@ pub(crate) struct LinkCommand<'a> {
     pub object: &'a str,
 }
 
-/// The run of a program with so much gas, by the name of its file.
+/// The run of a program from an entry with so much gas, by the name of its file.
 #[derive(Clone, Copy)]
 pub(crate) struct RunCommand<'a> {
+    pub entry: u32,
     pub gas: u64,
     pub blob: &'a str,
 }

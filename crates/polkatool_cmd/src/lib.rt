@@ -17,11 +17,14 @@ mod link_fault;
 mod lowering;
 mod report;
 mod run;
+mod run_fault;
 #[cfg(test)]
 mod run_tests;
+mod run_words;
 mod status;
 #[cfg(test)]
 mod tests;
+mod values;
 mod words;
 
 use command::answer_to;
@@ -35,9 +38,9 @@ pub use words::Words;
 /// Does what the words ask for, in the folder and on out, and tells on err what went wrong.
 ///
 /// The words are `link -o OUT OBJ`: the object in the file OBJ is linked into the file OUT, and its map is put on out.
-/// Or they are `run BLOB` or `run --gas N BLOB`: the container in the file BLOB is run from entry 0 with gas N, 10,000,000
-/// without it, and the transcript of the run is put on out. All other words are a faulty command line, for which no memory
-/// is taken.
+/// Or they are `run` and, in any order, BLOB, `--entry I` and `--gas N`: the container in the file BLOB is run from entry I,
+/// 0 without it, with gas N, 10,000,000 without it, and the transcript of the run is put on out. All other words are a
+/// faulty command line, for which no memory is taken.
 pub fn polkatool<F: Folder, O: Sink, E: Sink>(
     alloc: Global,
     words: &Words,
@@ -46,9 +49,22 @@ pub fn polkatool<F: Folder, O: Sink, E: Sink>(
     err: &mut E,
 ) -> Status
     ensures concludes { Concludes (command_of words.now) result
-        (record { files = F.files files.old; reads = F.read_faults files.old; writes = F.write_faults files.old; out = O.bytes out.old; puts = O.faults out.old })
-        (record { files = F.files files.new; reads = F.read_faults files.new; writes = F.write_faults files.new; out = O.bytes out.new; puts = O.faults out.new })
-        (record { text = E.bytes err.old; puts = E.faults err.old }) (record { text = E.bytes err.new; puts = E.faults err.new }) }
+        (record {
+          files = F.files files.old;
+          reads = F.read_faults files.old;
+          writes = F.write_faults files.old;
+          out = O.bytes out.old;
+          puts = O.faults out.old;
+        })
+        (record {
+          files = F.files files.new;
+          reads = F.read_faults files.new;
+          writes = F.write_faults files.new;
+          out = O.bytes out.new;
+          puts = O.faults out.new;
+        })
+        (record { text = E.bytes err.old; puts = E.faults err.old })
+        (record { text = E.bytes err.new; puts = E.faults err.new }) }
     ensures others { KeepsFiles (command_of words.now) (F.files files.old) (F.files files.new) }
 {
     let answer = answer_to(alloc, words, files, out);

@@ -1,11 +1,12 @@
 //! From the bytes of an object's file to a container.
 
-ghost use Rattle.std.specs.Prelude.{◌≡◌, ◌+◌, ◌%◌, ◌^◌, ◌<◌, ◌≤◌, ◌∷◌, [], None, OnOk, IfOk, MatchResult, MatchOption, length};
+ghost use Rattle.std.specs.Prelude.{◌≡◌, ◌+◌, ◌%◌, ◌^◌, ◌≤◌, ◌∷◌, [], None, OnOk, MatchResult, MatchOption, length};
 ghost use Rattle.rv_decode.specs.Operations.{IsOp};
 ghost use Rattle.elf_objects.specs.Shape.{object_with};
 ghost use Rattle.lower.specs.Lowering.{lower_op};
 ghost use Rattle.link_core.specs.Linked.{HoldsLinked};
-ghost use Rattle.polkatool_cmd.specs.Straight.{words_of, straight_op, straight_instrs, end_trap, first_unbuilt, given_of};
+ghost use Rattle.polkatool_cmd.specs.Straight.{words_of, straight_op, straight_instrs, end_trap};
+ghost use Rattle.polkatool_cmd.specs.Straight.{first_unbuilt, given_of};
 ghost use Rattle.polkatool_cmd.specs.Assembling.{empty, append};
 ghost use Rattle.polkatool_cmd.specs.Faults.{Links, LinkFails, RefusesText, unbuilt_word as unbuilt_word_at};
 
@@ -63,7 +64,9 @@ fn link_text(alloc: Global, text: &[u8]) -> Result<Bytes8, LinkFault>
 /// The entry's jump, the instructions of the words, and the trap at their end.
 fn assemble(alloc: Global, text: &[u8]) -> Result<Assembly, LinkFault>
     ensures built { OnOk result (first_unbuilt 0 (words_of text.now) ≡ None) }
-    ensures code { MatchResult result (λ a. a ≡ append empty (straight_instrs (words_of text.now))) (RefusesText text.now) }
+    ensures code { MatchResult result
+        (λ a. a ≡ append empty (straight_instrs (words_of text.now)))
+        (RefusesText text.now) }
 {
     let mut assembly = Assembly::new(alloc);
     assembly.place(&entry_jump())?;
@@ -83,7 +86,9 @@ fn assemble(alloc: Global, text: &[u8]) -> Result<Assembly, LinkFault>
 
 /// The first word of a text, and the text after it.
 fn first_word(text: &[u8]) -> Option<(u32, &[u8])>
-    ensures { MatchOption result (words_of text.now ≡ []) (λ w. (words_of text.now ≡ w.0 ∷ words_of w.1.now) × (length text.now ≡ length w.1.now + 4)) }
+    ensures { MatchOption result
+        (words_of text.now ≡ [])
+        (λ w. (words_of text.now ≡ w.0 ∷ words_of w.1.now) × (length text.now ≡ length w.1.now + 4)) }
 {
     match text {
         [a, b, c, d, rest @ ..] => Some((u32::from_le_bytes([*a, *b, *c, *d]), rest)),

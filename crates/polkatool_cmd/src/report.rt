@@ -12,6 +12,17 @@ use elf_objects::Fault;
 use itoa::Buffer;
 use outside::Sink;
 
+/// The codes of what keeps bytes from being a container, as `BlobFault` tells them.
+pub(crate) const TRUNCATED: u8 = 40;
+
+pub(crate) const OVERLONG: u8 = 41;
+
+pub(crate) const BAD_WIDTH: u8 = 42;
+
+pub(crate) const BAD_PADDING: u8 = 43;
+
+pub(crate) const LEFT_OVER: u8 = 44;
+
 /// The code of a program at whose entry no block starts.
 pub(crate) const BAD_ENTRY: u8 = 47;
 
@@ -32,14 +43,18 @@ const NUMBER_LEN: usize = 40;
 
 /// Puts on err that memory was refused: for a caller that has no memory for the words. It takes no memory.
 pub fn out_of_memory<E: Sink>(err: &mut E) -> Status
-    ensures { Reports Answer.Memory result (record { text = E.bytes err.old; puts = E.faults err.old }) (record { text = E.bytes err.new; puts = E.faults err.new }) }
+    ensures { Reports Answer.Memory result
+        (record { text = E.bytes err.old; puts = E.faults err.old })
+        (record { text = E.bytes err.new; puts = E.faults err.new }) }
 {
     report(Answer::Memory, err)
 }
 
 /// Puts the line of an answer on err, if it has one. It takes no memory.
 pub(crate) fn report<E: Sink>(answer: Answer, err: &mut E) -> Status
-    ensures { Reports answer result (record { text = E.bytes err.old; puts = E.faults err.old }) (record { text = E.bytes err.new; puts = E.faults err.new }) }
+    ensures { Reports answer result
+        (record { text = E.bytes err.old; puts = E.faults err.old })
+        (record { text = E.bytes err.new; puts = E.faults err.new }) }
 {
     match answer {
         Answer::Done => Status::Done,
@@ -54,7 +69,9 @@ pub(crate) fn report<E: Sink>(answer: Answer, err: &mut E) -> Status
 
 /// Puts a line, and answers the status where it was put.
 fn put_line<E: Sink>(line: &str, status: Status, err: &mut E) -> Status
-    ensures { Puts line.now status result (record { text = E.bytes err.old; puts = E.faults err.old }) (record { text = E.bytes err.new; puts = E.faults err.new }) }
+    ensures { Puts line.now status result
+        (record { text = E.bytes err.old; puts = E.faults err.old })
+        (record { text = E.bytes err.new; puts = E.faults err.new }) }
 {
     match err.put(line.as_bytes()) {
         Ok(()) => status,
@@ -95,6 +112,11 @@ fn fault_name(code: u8) -> &'static str
     ensures short { length result.now ≤ 12 }
 {
     match code {
+        TRUNCATED => "Truncated",
+        OVERLONG => "Overlong",
+        BAD_WIDTH => "BadWidth",
+        BAD_PADDING => "BadPadding",
+        LEFT_OVER => "LeftOver",
         BAD_ENTRY => "BadEntry",
         FILE_TOO_LARGE => "FileTooLarge",
         _ => "NotBuilt",

@@ -1,14 +1,11 @@
 //! From the bytes of a container to the transcript of its run.
 
-ghost use Rattle.std.specs.Prelude.{◌≡◌, ◌*◌, ◌^◌, ◌≤◌, ◌<◌, ◌++◌, Some, true, length, slice_index, IfOk, OnOk, OnErr, MatchResult, codes, replicate, ℕ};
+ghost use Rattle.std.specs.Prelude.{◌≡◌, ◌*◌, ◌^◌, ◌≤◌, ◌<◌, ◌++◌, Some, length, IfOk, OnOk, OnErr, MatchResult, codes, replicate};
 ghost use Rattle.std.specs.Io.KnownBytes.{Appends};
 ghost use Rattle.outside.specs.Outside.{AppendsFront, HasCause};
-ghost use Rattle.pvm_ops.specs.Listing.{is_marked};
-ghost use Rattle.machine_state.specs.Output.{bytes_at};
 ghost use Rattle.pvm_machine.specs.Stepped.{IsGivenSoFar};
 ghost use Rattle.pvm_machine.specs.Ran.{last_answer, run_of};
 ghost use Rattle.polkatool_cmd.specs.Commands.{Run};
-ghost use Rattle.polkatool_cmd.specs.RunFaults.{is_built, is_other, has_no_other, is_runnable};
 ghost use Rattle.polkatool_cmd.specs.Transcript.{end_line, gas_line};
 ghost use Rattle.polkatool_cmd.specs.Statuses.{status_of};
 ghost use Rattle.polkatool_cmd.specs.Answers.{ComesTo};
@@ -16,14 +13,13 @@ ghost use Rattle.polkatool_cmd.specs.Running.{Starts, FailsToStart, Tells, EndsA
 
 use crate::answer::Answer;
 use crate::commands::RunCommand;
-use crate::report::{BAD_ENTRY, FILE_TOO_LARGE, LINE_LEN, push_field};
+use crate::report::{BAD_ENTRY, FILE_TOO_LARGE, push_field};
+use crate::run_fault::{RunFault, blob_fault, unbuilt_form};
 use arrayvec::ArrayString;
 use blob_codec::Container;
-use elf_objects::{Fault, NOT_BUILT};
 use machine_state::empty_start_is_zero;
 use outside::{Failed, Folder, ReadFault, Sink};
 use pvm_machine::{Exit, Machine, StartFault, memory_stays};
-use pvm_ops::Code;
 use std::alloc::Global;
 
 /// The most bytes of a blob's file, 2^27.
@@ -32,17 +28,6 @@ const BLOB_LIMIT: u32 = 1 << 27;
 /// How many digits of a long output are put at once.
 const PIECE_LEN: usize = 256;
 
-/// Why the program of a file isn't run.
-#[derive(Clone, Copy, Debug, PartialEq, Eq)]
-enum RunFault {
-    /// The file is no container that is run so far.
-    NotBuilt,
-    /// No block starts at position 0.
-    BadEntry,
-    /// Memory was refused.
-    Memory,
-}
-
 /// Runs the program of one file, and puts the transcript of its run.
 pub(crate) fn run<F: Folder, O: Sink>(
     alloc: Global,
@@ -50,100 +35,61 @@ pub(crate) fn run<F: Folder, O: Sink>(
     files: &mut F,
     out: &mut O,
 ) -> Answer
-    ensures comes { ComesTo (Some (Run command.now.gas command.now.blob.now)) result
-        (record { files = F.files files.old; reads = F.read_faults files.old; writes = F.write_faults files.old; out = O.bytes out.old; puts = O.faults out.old })
-        (record { files = F.files files.new; reads = F.read_faults files.new; writes = F.write_faults files.new; out = O.bytes out.new; puts = O.faults out.new }) }
+    ensures comes { ComesTo (Some (Run command.now.entry command.now.gas command.now.blob.now)) result
+        (record {
+          files = F.files files.old;
+          reads = F.read_faults files.old;
+          writes = F.write_faults files.old;
+          out = O.bytes out.old;
+          puts = O.faults out.old;
+        })
+        (record {
+          files = F.files files.new;
+          reads = F.read_faults files.new;
+          writes = F.write_faults files.new;
+          out = O.bytes out.new;
+          puts = O.faults out.new;
+        }) }
     ensures files { F.files files.new ≡ F.files files.old }
 {
     let file = match files.read(alloc, command.blob, BLOB_LIMIT) {
         Ok(file) => file,
         Err(ReadFault::Failed) => return Answer::FileFault,
-        Err(ReadFault::TooLarge) => return refused(FILE_TOO_LARGE),
+        Err(ReadFault::TooLarge) => return Answer::Refused(blob_fault(FILE_TOO_LARGE)),
         Err(ReadFault::Memory) => return Answer::Memory,
     };
-    match start(alloc, file.as_slice(), command.gas) {
+    match start(alloc, file.as_slice(), command.entry, command.gas) {
         Ok(mut machine) => finish(&mut machine, out),
-        Err(RunFault::NotBuilt) => refused(NOT_BUILT),
-        Err(RunFault::BadEntry) => refused(BAD_ENTRY),
+        Err(RunFault::Bad(fault)) => Answer::Refused(fault),
         Err(RunFault::Memory) => Answer::Memory,
     }
 }
 
-/// A refusal that names no place of a file.
-fn refused(code: u8) -> Answer
-    ensures { result ≡ Answer.Refused (record { code = code; object = 0; section = 0; offset = 0 }) }
-{
-    Answer::Refused(Fault {
-        code,
-        object: 0,
-        section: 0,
-        offset: 0,
-    })
-}
-
-/// The machine at entry 0 of the container that a file of at most 2^27 bytes is, without an argument.
-fn start(alloc: Global, file: &[u8], gas: u64) -> Result<Machine<'_>, RunFault>
+/// The machine at an entry of the container that a file of at most 2^27 bytes is, without an argument.
+fn start(alloc: Global, file: &[u8], entry: u32, gas: u64) -> Result<Machine<'_>, RunFault>
     requires { length file.now ≤ 2 ^ 27 }
-    ensures starts { MatchResult result (Starts file.now gas) (FailsToStart file.now) }
+    ensures starts { MatchResult result (Starts file.now entry gas) (FailsToStart file.now entry) }
     ensures zero { IfOk result (λ m. IsZero m.state.memory) }
 {
     empty_start_is_zero();
-    let Ok(container) = Container::read(file) else {
-        return Err(RunFault::NotBuilt);
-    };
-    if !is_runnable(&container) {
-        return Err(RunFault::NotBuilt);
+    let container = Container::read(file)?;
+    if let Some(fault) = unbuilt_form(&container) {
+        return Err(RunFault::Bad(fault));
     }
-    match Machine::start(alloc, &container, 0, &[], gas) {
+    match Machine::start(alloc, &container, entry, &[], gas) {
         Ok(machine) => Ok(machine),
         Err(StartFault::Memory) => Err(RunFault::Memory),
-        Err(StartFault::BadEntry) => Err(RunFault::BadEntry),
+        Err(StartFault::BadEntry) => Err(RunFault::Bad(blob_fault(BAD_ENTRY))),
         Err(StartFault::ArgumentTooLarge) => unreachable!(),
     }
-}
-
-/// Whether a container is one that is run so far.
-fn is_runnable(container: &Container<'_>) -> bool
-    ensures { result ≡ is_runnable container.now }
-{
-    let program = container.program();
-    container.read_only().is_empty()
-        && container.writable().is_empty()
-        && container.zero_pages() == 0
-        && program.table_len() == 0
-        && has_no_other(&program.code())
-}
-
-/// Whether each marked position of a code has an opcode that is run so far.
-fn has_no_other(code: &Code<'_>) -> bool
-    ensures { result ≡ has_no_other code.now }
-{
-    for at in 0..code.bytes().len() {
-        if is_other(code, at) {
-            return false;
-        }
-    }
-    true
-}
-
-/// Whether an opcode that isn't run so far is marked at a position.
-fn is_other(code: &Code<'_>, at: usize) -> bool
-    ensures { result ≡ is_other code.now at }
-{
-    code.marked(at as u64) && !is_built(code.bytes()[at])
-}
-
-/// Whether instructions of the opcode are run so far.
-fn is_built(op: u8) -> bool
-    ensures { result ≡ is_built op }
-{
-    matches!(op, 0 | 1 | 40 | 50 | 51 | 100 | 149)
 }
 
 /// Runs a machine to its end, and puts the transcript.
 fn finish<O: Sink>(machine: &mut Machine<'_>, out: &mut O) -> Answer
     requires { IsZero machine.old.state.memory }
-    ensures { Tells (run_of machine.old) result (record { text = O.bytes out.old; puts = O.faults out.old }) (record { text = O.bytes out.new; puts = O.faults out.new }) }
+    ensures { Tells (run_of machine.old) result
+        (record { text = O.bytes out.old; puts = O.faults out.old })
+        (record { text = O.bytes out.new; puts = O.faults out.new }) }
 {
     memory_stays();
     let exit = machine.run();
@@ -163,8 +109,10 @@ fn put_end<O: Sink>(machine: &Machine<'_>, exit: Exit, out: &mut O) -> Result<An
     requires zero { IsZero machine.now.state.memory }
     requires given { IsGivenSoFar (last_answer exit) }
     ensures ends { IfOk result (λ answer. EndsAs answer (status_of (end_of exit machine.now.state))) }
-    ensures ok { OnOk result (Appends (O.bytes out.old) (O.bytes out.new) (end_line (end_of exit machine.now.state))) }
-    ensures err { OnErr result (AppendsFront (O.bytes out.old) (O.bytes out.new) (end_line (end_of exit machine.now.state))) }
+    ensures ok { OnOk result
+        (Appends (O.bytes out.old) (O.bytes out.new) (end_line (end_of exit machine.now.state))) }
+    ensures err { OnErr result
+        (AppendsFront (O.bytes out.old) (O.bytes out.new) (end_line (end_of exit machine.now.state))) }
     ensures cause { HasCause (O.faults out.old) (O.faults out.new) result }
 {
     match exit {
@@ -196,8 +144,12 @@ fn output_len(range: Option<(u32, u32)>) -> u32
 
 /// Puts the line of a halt with an output of so many bytes, which are zero, as nothing is written to memory so far.
 fn put_halt<O: Sink>(len: u32, out: &mut O) -> Result<(), Failed>
-    ensures ok { OnOk result (Appends (O.bytes out.old) (O.bytes out.new) (codes "halt output=" ++ replicate (2 * len) 48 ++ codes "\n")) }
-    ensures err { OnErr result (AppendsFront (O.bytes out.old) (O.bytes out.new) (codes "halt output=" ++ replicate (2 * len) 48 ++ codes "\n")) }
+    ensures ok { OnOk result
+        (Appends (O.bytes out.old) (O.bytes out.new)
+        (codes "halt output=" ++ replicate (2 * len) 48 ++ codes "\n")) }
+    ensures err { OnErr result
+        (AppendsFront (O.bytes out.old) (O.bytes out.new)
+        (codes "halt output=" ++ replicate (2 * len) 48 ++ codes "\n")) }
     ensures cause { HasCause (O.faults out.old) (O.faults out.new) result }
 {
     out.put(b"halt output=")?;

@@ -13,14 +13,16 @@ const OF_LONG_OUTPUT: [u8; 30] = [
     0x08, 0xc8, 0, 0x32, 0, 0x11, 0x01,
 ];
 
-/// A container in whose code no instruction is marked.
-const OF_NO_ENTRY: [u8; 21] = [
-    0, 0, 0, 0, 0, 0, 0, 0, 0, 0, 1, 0x06, 0, 0, 0, 0, 0x01, 0x02, 0x32, 0, 0,
-];
+/// The program of `examples/five`, whose code is `jump 5`, `load_imm a0, 5` and `jump_ind ra, 0`.
+const FIVE: &[u8; 15] = b"\x00\x01\x0a\x28\x05\0\0\0\x33\x07\x05\x32\0\x21\x01";
 
-/// A container whose code has the opcode 10.
-const OF_ANOTHER_OPCODE: [u8; 21] = [
-    0, 0, 0, 0, 0, 0, 0, 0, 0, 0, 1, 0x06, 0, 0, 0, 0, 0x01, 0x02, 0x0a, 0, 0x01,
+/// A program whose code is `load_imm a0, 5` and, at position 3, `ecalli 0`.
+const OF_A_CALL: &[u8; 9] = b"\x00\x01\x05\x33\x07\x05\x0a\0\x09";
+
+/// Its container has a byte of read-only data.
+const OF_READ_ONLY_DATA: [u8; 25] = [
+    1, 0, 0, 0, 0, 0, 0, 0, 0, 0, 1, 0x2a, 0x09, 0, 0, 0, 0, 0x01, 0x05, 0x33, 0x07, 0x05, 0x0a, 0,
+    0x09,
 ];
 
 const FILE_FAULT: &[u8; 22] = b"polkatool: file fault\n";
@@ -34,6 +36,13 @@ fn outside_of(alloc: Global, blob: &[u8]) -> Result<Outside, AllocError> {
         out: MemorySink::new(alloc, 1000)?,
         err: MemorySink::new(alloc, 100)?,
     })
+}
+
+/// A container with a stack of 65,536 bytes and these bytes behind it, of which so many are said to be its program.
+fn blob(alloc: Global, len: u8, program: &[u8]) -> Result<Vec<u8>, AllocError> {
+    let mut blob = Vec::from_slice(alloc, &[0, 0, 0, 0, 0, 0, 0, 0, 0, 0, 1, len, 0, 0, 0])?;
+    blob.extend_from_slice(program)?;
+    Ok(blob)
 }
 
 /// Whether the words, with this blob, come to the status and leave these bytes on out and err.
@@ -50,9 +59,32 @@ fn runs_to(
     Ok(answer == status && outside.out.bytes() == out && outside.err.bytes() == err)
 }
 
+/// Whether these words run the program to the end with this transcript.
+fn ends_with(
+    alloc: Global,
+    program: &[u8],
+    line: &[&[u8]],
+    status: Status,
+    out: &[u8],
+) -> Result<bool, AllocError> {
+    let len = u8::try_from(program.len()).unwrap_or(u8::MAX);
+    let blob = blob(alloc, len, program)?;
+    runs_to(alloc, &blob, line, status, out, b"")
+}
+
 /// Whether the run of a blob is refused with this line.
 fn is_refused(alloc: Global, blob: &[u8], line: &[u8]) -> Result<bool, AllocError> {
     runs_to(alloc, blob, &[b"run", b"b"], Status::Refused, b"", line)
+}
+
+/// Whether the run of these bytes, of which so many are said to be a program, is refused with this line.
+fn is_program_refused(
+    alloc: Global,
+    len: u8,
+    program: &[u8],
+    line: &[u8],
+) -> Result<bool, AllocError> {
+    is_refused(alloc, &blob(alloc, len, program)?, line)
 }
 
 /// Whether a run whose put of this number fails is a file fault that leaves these bytes.
@@ -143,15 +175,145 @@ fn puts_a_long_output(rt: HostRuntime) -> Result<(), Fail> {
 }
 
 #[test]
-fn refuses_other_blobs(rt: HostRuntime) -> Result<(), Fail> {
-    let line = b"refused 63 NotBuilt object=0 section=0 offset=0\n";
-    assert!(rt; is_refused(rt.alloc(), b"", line)?);
-    assert!(rt; is_refused(rt.alloc(), &OF_ANOTHER_OPCODE, line)?);
+fn runs_each_entry(rt: HostRuntime) -> Result<(), Fail> {
+    let lines: [(&[&[u8]], &[u8]); 5] = [
+        (&[b"run", b"b"], b"halt output=\ngas left=9999997\n"),
+        (
+            &[b"run", b"--entry", b"0", b"b"],
+            b"halt output=\ngas left=9999997\n",
+        ),
+        (
+            &[b"run", b"b", b"--entry", b"1"],
+            b"halt output=\ngas left=9999998\n",
+        ),
+        (
+            &[b"run", b"--entry", b"1", b"b", b"--gas", b"2"],
+            b"halt output=\ngas left=0\n",
+        ),
+        (
+            &[b"run", b"--gas", b"2", b"--entry", b"1", b"b"],
+            b"halt output=\ngas left=0\n",
+        ),
+    ];
+    for (line, out) in lines {
+        assert!(rt; ends_with(rt.alloc(), FIVE, line, Status::Done, out)?);
+    }
+    Ok(())
+}
+
+#[test]
+fn refuses_other_entries(rt: HostRuntime) -> Result<(), Fail> {
+    let five = container(rt.alloc())?;
+    let entries: [&[u8]; 2] = [b"2", b"4294967295"];
+    for entry in entries {
+        assert!(rt;
+            runs_to(
+                rt.alloc(),
+                &five,
+                &[b"run", b"--entry", entry, b"b"],
+                Status::Refused,
+                b"",
+                b"refused 47 BadEntry object=0 section=0 offset=0\n"
+            )?
+        );
+    }
+    Ok(())
+}
+
+#[test]
+fn runs_out_of_gas_at_once(rt: HostRuntime) -> Result<(), Fail> {
+    assert!(rt;
+        ends_with(
+            rt.alloc(),
+            FIVE,
+            &[b"run", b"b", b"--gas", b"0"],
+            Status::OutOfGas,
+            b"out-of-gas\ngas left=0\n"
+        )?
+    );
+    Ok(())
+}
+
+/// A program with a jump table runs, and one that comes to an opcode that there isn't panics there.
+#[test]
+fn runs_other_programs(rt: HostRuntime) -> Result<(), Fail> {
+    assert!(rt;
+        ends_with(
+            rt.alloc(),
+            b"\x01\x01\x02\0\x32\0\x01",
+            &[b"run", b"b"],
+            Status::Done,
+            b"halt output=\ngas left=9999999\n"
+        )?
+    );
+    assert!(rt;
+        ends_with(
+            rt.alloc(),
+            b"\x00\x01\x02\x01\x02\x03",
+            &[b"run", b"b"],
+            Status::Panicked,
+            b"panic\ngas left=9999998\n"
+        )?
+    );
+    Ok(())
+}
+
+#[test]
+fn refuses_what_is_no_container(rt: HostRuntime) -> Result<(), Fail> {
+    let rows: [(u8, &[u8], &[u8]); 5] = [
+        (
+            15,
+            b"\x00\x01\x0a\x28\x05\0\0\0\x33\x07\x05\x32\0\x21",
+            b"refused 40 Truncated object=0 section=0 offset=0\n",
+        ),
+        (
+            16,
+            b"\x00\x01\x80\x0a\x28\x05\0\0\0\x33\x07\x05\x32\0\x21\x01",
+            b"refused 41 Overlong object=0 section=0 offset=0\n",
+        ),
+        (
+            15,
+            b"\x00\x09\x0a\x28\x05\0\0\0\x33\x07\x05\x32\0\x21\x01",
+            b"refused 42 BadWidth object=0 section=0 offset=0\n",
+        ),
+        (
+            15,
+            b"\x00\x01\x0a\x28\x05\0\0\0\x33\x07\x05\x32\0\x21\x05",
+            b"refused 43 BadPadding object=0 section=0 offset=0\n",
+        ),
+        (
+            15,
+            b"\x00\x01\x0a\x28\x05\0\0\0\x33\x07\x05\x32\0\x21\x01\0",
+            b"refused 44 LeftOver object=0 section=0 offset=0\n",
+        ),
+    ];
+    for (len, program, line) in rows {
+        assert!(rt; is_program_refused(rt.alloc(), len, program, line)?);
+    }
+    Ok(())
+}
+
+/// An opcode that isn't run is told where it stands, before an entry that isn't there; data before both.
+#[test]
+fn refuses_what_is_not_built(rt: HostRuntime) -> Result<(), Fail> {
+    let call = blob(rt.alloc(), 9, OF_A_CALL)?;
+    let line = b"refused 63 NotBuilt object=0 section=0 offset=3\n";
+    assert!(rt; is_refused(rt.alloc(), &call, line)?);
+    assert!(rt;
+        runs_to(
+            rt.alloc(),
+            &call,
+            &[b"run", b"--entry", b"1", b"b"],
+            Status::Refused,
+            b"",
+            line
+        )?
+    );
     assert!(rt;
         is_refused(
             rt.alloc(),
-            &OF_NO_ENTRY,
-            b"refused 47 BadEntry object=0 section=0 offset=0\n"
+            &OF_READ_ONLY_DATA,
+            b"refused 63 NotBuilt object=0 section=0 offset=0\n"
         )?
     );
     Ok(())
@@ -181,18 +343,33 @@ fn answers_a_missing_blob(rt: HostRuntime) -> Result<(), Fail> {
 }
 
 #[test]
+fn answers_faulty_numbers(rt: HostRuntime) -> Result<(), Fail> {
+    let values: [&[u8]; 6] = [b"03", b"+3", b"", b"3 ", b"-1", b"18446744073709551616"];
+    for value in values {
+        assert!(rt; is_faulty(rt.alloc(), &[b"run", b"--gas", value, b"b"])?);
+        assert!(rt; is_faulty(rt.alloc(), &[b"run", b"--entry", value, b"b"])?);
+    }
+    assert!(rt; is_faulty(rt.alloc(), &[b"run", b"--entry", b"4294967296", b"b"])?);
+    Ok(())
+}
+
+#[test]
 fn answers_faulty_runs(rt: HostRuntime) -> Result<(), Fail> {
-    let lines: [&[&[u8]]; 10] = [
+    let lines: [&[&[u8]]; 14] = [
         &[b"run"],
         &[b"run", b""],
+        &[b"run", b"\xff"],
         &[b"run", b"-b"],
+        &[b"run", b"b", b"b"],
+        &[b"run", b"b", b""],
         &[b"run", b"--gas", b"3"],
-        &[b"run", b"--gas", b"03", b"b"],
-        &[b"run", b"--gas", b"+3", b"b"],
-        &[b"run", b"--gas", b"", b"b"],
-        &[b"run", b"--gas", b"18446744073709551616", b"b"],
-        &[b"run", b"--gas", b"3", b"-b"],
-        &[b"run", b"b", b"--gas", b"3"],
+        &[b"run", b"--gas", b"b"],
+        &[b"run", b"b", b"--gas"],
+        &[b"run", b"b", b"--entry"],
+        &[b"run", b"--gas", b"3", b"--gas", b"3", b"b"],
+        &[b"run", b"--entry", b"0", b"b", b"--entry", b"0"],
+        &[b"run", b"--arg", b"00", b"b"],
+        &[b"run", b"b", b"--replies", b"b"],
     ];
     for line in lines {
         assert!(rt; is_faulty(rt.alloc(), line)?);

@@ -1,4 +1,4 @@
-use Rattle.std.proofs.Common.{◌≡◌, ℕ, ◌+◌, ◌-◌, ◌∷◌, [], ◌++◌, true, length, sym, ap, ◌∙◌, subst, arith}
+use Rattle.std.proofs.Common.{◌≡◌, ◌+◌, ◌-◌, ◌∷◌, [], ◌++◌, true, length, sym, ap, ◌∙◌, subst, arith}
 use Rattle.lower.specs.Lowering.{lower_op}
 use Rattle.jump_table.specs.Assembly.{jump}
 use Rattle.polkatool_cmd.specs.Straight.{words_of, straight_op, body, first_unbuilt}

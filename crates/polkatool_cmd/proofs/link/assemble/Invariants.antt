@@ -1,4 +1,4 @@
-use Rattle.std.proofs.Common.{◌≡◌, ◌++◌, ◌-◌, length, ◌≤◌}
+use Rattle.std.proofs.Common.{◌≡◌, ◌-◌, length, ◌≤◌}
 use Rattle.polkatool_cmd.specs.Straight.{words_of, body, straight_instrs, first_unbuilt}
 use Rattle.polkatool_cmd.specs.Assembling.{empty, append}
 use Rattle.polkatool_cmd.proofs.link.assemble.Given as goal

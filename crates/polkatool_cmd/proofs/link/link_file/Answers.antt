@@ -1,4 +1,4 @@
-use Rattle.std.proofs.Common.{◌≡◌, ℕ, ◌%◌, ◌≤◌, ◌^◌, List, length, sym, subst, arith, ap}
+use Rattle.std.proofs.Common.{◌≡◌, ℕ, ◌%◌, List, length, sym, subst, arith, ap}
 use Rattle.polkatool_cmd.proofs.Objects.{has_text, text-shown}
 use Rattle.polkatool_cmd.proofs.link.link_file.Goals as goal
 

@@ -1,4 +1,4 @@
-use Rattle.std.proofs.Common.{sym, ap, ◌∙◌}
+use Rattle.std.proofs.Common.{◌∙◌}
 use Rattle.elf_objects.specs.Shape.{object_with}
 use Rattle.polkatool_cmd.specs.Straight.{words_of, given_of, straight_container}
 use Rattle.polkatool_cmd.proofs.Containers.{program_with-straight, is_program, program_len, container_bytes-straight}

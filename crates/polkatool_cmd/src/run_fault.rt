@@ -1,0 +1,109 @@
+//! Why what a file holds isn't run.
+
+ghost use Rattle.std.specs.Prelude.{◌≡◌, length};
+ghost use Rattle.faults.specs.First.{least_below};
+ghost use Rattle.polkatool_cmd.specs.declared.run_fault.RunFault.TheVariants.{Bad};
+ghost use Rattle.polkatool_cmd.specs.RunFaults.{blob_fault_at, blob_fault as blob_fault_of, code_of};
+ghost use Rattle.polkatool_cmd.specs.RunFaults.{has_data, unbuilt_form, is_unbuilt, is_unbuilt_at};
+
+use crate::report::{BAD_PADDING, BAD_WIDTH, LEFT_OVER, OVERLONG, TRUNCATED};
+use blob_codec::{BlobFault, Container};
+use elf_objects::{Fault, NOT_BUILT};
+use pvm_ops::Code;
+
+/// Why the program of a file isn't run.
+#[derive(Clone, Copy, Debug, PartialEq, Eq)]
+pub(crate) enum RunFault {
+    /// The file has this fault.
+    Bad(Fault),
+    /// Memory was refused.
+    Memory,
+}
+
+impl From<BlobFault> for RunFault {
+    ghost from_gives = { λ found fault. fault ≡ Bad (blob_fault_of (code_of found)) };
+
+    fn from(fault: BlobFault) -> RunFault {
+        RunFault::Bad(blob_fault(code_of(fault)))
+    }
+}
+
+/// A fault of a blob as a whole.
+pub(crate) fn blob_fault(code: u8) -> Fault
+    ensures { result ≡ blob_fault_of code }
+{
+    blob_fault_at(code, 0)
+}
+
+/// A fault of a blob at an offset.
+fn blob_fault_at(code: u8, offset: u64) -> Fault
+    ensures { result ≡ blob_fault_at code offset }
+{
+    Fault {
+        code,
+        object: 0,
+        section: 0,
+        offset,
+    }
+}
+
+/// The code of what keeps bytes from being a container.
+fn code_of(fault: BlobFault) -> u8
+    ensures { result ≡ code_of fault }
+{
+    match fault {
+        BlobFault::Truncated => TRUNCATED,
+        BlobFault::Overlong => OVERLONG,
+        BlobFault::BadWidth => BAD_WIDTH,
+        BlobFault::BadPadding => BAD_PADDING,
+        BlobFault::LeftOver => LEFT_OVER,
+    }
+}
+
+/// The least form of a container that isn't built so far, if there is one. It takes no memory.
+pub(crate) fn unbuilt_form(container: &Container<'_>) -> Option<Fault>
+    ensures { result ≡ unbuilt_form container.now }
+{
+    if has_data(container) {
+        return Some(blob_fault(NOT_BUILT));
+    }
+    match least_unbuilt(&container.program().code()) {
+        Some(at) => Some(blob_fault_at(NOT_BUILT, at)),
+        None => None,
+    }
+}
+
+/// Whether a container has data or zero pages.
+fn has_data(container: &Container<'_>) -> bool
+    ensures { result ≡ has_data container.now }
+{
+    !(container.read_only().is_empty()
+        && container.writable().is_empty()
+        && container.zero_pages() == 0)
+}
+
+/// The least position at which an instruction that isn't run so far is marked.
+fn least_unbuilt(code: &Code<'_>) -> Option<u64>
+    ensures { result ≡ least_below (length code.now.bytes) (is_unbuilt_at code.now) }
+{
+    for at in 0..code.bytes().len() {
+        if is_unbuilt_at(code, at) {
+            return Some(at as u64);
+        }
+    }
+    None
+}
+
+/// Whether an instruction that isn't run so far is marked at a position.
+fn is_unbuilt_at(code: &Code<'_>, at: usize) -> bool
+    ensures { result ≡ is_unbuilt_at code.now at }
+{
+    code.marked(at as u64) && is_unbuilt(code.bytes()[at])
+}
+
+/// Whether instructions of the opcode aren't run so far.
+fn is_unbuilt(op: u8) -> bool
+    ensures { result ≡ is_unbuilt op }
+{
+    matches!(op, 10 | 30..=33 | 52..=62 | 70..=73 | 101 | 120..=130)
+}
