@@ -6,3 +6,5 @@ pub mod Masks
 pub mod Table
 pub mod ReadBack
 pub mod Padding
+pub mod MaskWindow
+pub mod NextMark

@@ -1,6 +1,8 @@
-ghost use Rattle.std.specs.Prelude.{◌≡◌, ◌+◌, ◌/◌, ◌<◌, ◌≤◌, ◌^◌, length, slice_index};
-ghost use Rattle.pvm_ops.specs.Listing.{is_marked, is_stop, skip};
+ghost use Rattle.std.specs.Prelude.{◌≡◌, ℕ, ◌+◌, ◌/◌, ◌<◌, ◌≤◌, ◌^◌, length, slice_index};
+ghost use Rattle.std.specs.Int.{bit_at};
+ghost use Rattle.pvm_ops.specs.Listing.{is_marked, skip};
 
+use crate::windows::{byte, window};
 use std::marker::Model;
 
 /// The bytes of a code with its mask, both lent: a bit for each byte, the lowest bit of a byte first, set where an
@@ -60,18 +62,7 @@ impl<'a> Code<'a> {
     pub(crate) fn byte(&self, at: usize) -> u8
         ensures { result ≡ slice_index self.now.bytes at }
     {
-        if at < self.bytes.len() {
-            self.bytes[at]
-        } else {
-            0
-        }
-    }
-
-    /// Whether operands before a position end there.
-    fn stops(&self, at: u64) -> bool
-        ensures { result ≡ is_stop self.now at }
-    {
-        at >= self.bytes.len() as u64 || self.mask[(at / 8) as usize] >> (at % 8) & 1 == 1
+        byte(self.bytes, at)
     }
 
     /// How many bytes of operands follow the opcode at a position, at most 24.
@@ -82,11 +73,20 @@ impl<'a> Code<'a> {
     {
         let len = self.len();
         prove!(at < len);
-        for run in 0..24u8 {
-            if self.stops(at + 1 + u64::from(run)) {
-                return run;
-            }
-        }
-        24
+        let next = at + 1;
+        // Past the code all positions stop, and 24 is the most.
+        let limit = (len - next).min(24);
+        let marks = window(self.mask, (next / 8) as usize) >> (next % 8);
+        first_mark(marks, limit as u8)
     }
+}
+
+/// The place of the lowest bit that is set, or the limit where none is set below it.
+fn first_mark(marks: u32, limit: u8) -> u8
+    requires { limit ≤ 24 }
+    ensures bound { result ≤ limit }
+    ensures below { (j : ℕ) → j < result → bit_at marks j ≡ 0 }
+    ensures here { result < limit → bit_at marks result ≡ 1 }
+{
+    (marks | 1 << limit).trailing_zeros() as u8
 }

@@ -16,6 +16,7 @@ mod laws;
 mod opcodes;
 #[cfg(test)]
 mod tests;
+mod windows;
 mod words;
 
 pub use blocks::Blocks;

@@ -474,6 +474,33 @@ fn fetches_a_trap_where_nothing_stands(rt: HostRuntime) {
     stands(rt, &bytes, &mask, u64::MAX, TRAP, u64::MAX);
 }
 
+/// The instruction at a position in the midst of a long code ends at the next mark, at the end of the code, or 25 bytes on.
+#[test]
+fn passes_operands_in_a_long_code(rt: HostRuntime) {
+    let bytes = [1; 112];
+    for at in 40..72usize {
+        for gap in 1..=40usize {
+            let end = at + gap;
+            let want = end.min(at + 25) as u64;
+            let mut mask = [0; 14];
+            mask[at / 8] |= 1u8 << (at % 8);
+            let code = Code::new(&bytes[..end], &mask[..end.div_ceil(8)]);
+            assert_eq!(rt;
+                fetch(&code, at as u64).next,
+                want,
+                "at {at}, the end at {end}"
+            );
+            mask[end / 8] |= 1u8 << (end % 8);
+            let code = Code::new(&bytes, &mask);
+            assert_eq!(rt;
+                fetch(&code, at as u64).next,
+                want,
+                "at {at}, a mark at {end}"
+            );
+        }
+    }
+}
+
 #[test]
 fn lends_a_code(rt: HostRuntime) {
     let bytes = [0x28, 5, 0, 0, 0, 0x33, 7, 5, 0x32, 0];
