@@ -4,9 +4,6 @@ ghost use Rattle.blob_check.specs.Starts.{is_terminator, leads, any_below, is_st
 
 use pvm_ops::{Code, known};
 
-/// The most bytes that an instruction takes with its operands, as far as the code is walked: an opcode and 24 more.
-const REACH: u64 = 25;
-
 /// Whether a block starts at a position of the code, so that a jump may lead there: an instruction of a known opcode is
 /// marked at it, and the position is 0 or follows an instruction that ends a block.
 ///
@@ -33,16 +30,10 @@ fn follows(code: &Code<'_>, at: u64) -> bool
     requires { is_marked code.now at ≡ true }
     ensures { result ≡ any_below (leads code.now at) at }
 {
-    for near in 0..REACH {
-        if at <= near {
-            return false;
-        }
-        let from = at - near - 1;
-        if code.marked(from) {
-            return is_terminator(opcode(code, from));
-        }
+    match code.mark_before(at) {
+        Some(from) => is_terminator(opcode(code, from)),
+        None => false,
     }
-    false
 }
 
 /// Whether instructions of the opcode end a block.

@@ -1,3 +1,5 @@
+ghost use Rattle.std.specs.Prelude.{◌<◌};
+
 use super::*;
 use pvm_ops::Code;
 use std::test::*;
@@ -32,4 +34,51 @@ fn a_block_follows_the_longest_instruction(rt: HostRuntime) -> Result<(), Fail> 
     bytes[25] = 2;
     assert!(rt; !is_start(&Code::new(&bytes, &[0x01, 0x00, 0x00, 0x02]), 25));
     Ok(())
+}
+
+/// A mask with marks at two positions.
+fn two_marks(first: usize, second: usize) -> [u8; 14]
+    requires first { first < 112 }
+    requires second { second < 112 }
+{
+    let mut mask = [0; 14];
+    mask[first / 8] |= 1u8 << (first % 8);
+    mask[second / 8] |= 1u8 << (second % 8);
+    mask
+}
+
+#[test]
+fn the_nearest_mark_decides_in_a_long_code(rt: HostRuntime) {
+    // fallthrough all over, so that each marked position ends a block
+    let bytes = [1; 112];
+    for from in 0..72usize {
+        for gap in 1..=40usize {
+            let at = from + gap;
+            let mask = two_marks(from, at);
+            let code = Code::new(&bytes, &mask);
+            assert_eq!(rt;
+                is_start(&code, at as u64),
+                gap <= 25,
+                "at {at}, a mark at {from}"
+            );
+            let len = at + 1;
+            let code = Code::new(&bytes[..len], &mask[..len.div_ceil(8)]);
+            assert_eq!(rt;
+                is_start(&code, at as u64),
+                gap <= 25,
+                "at the end {at}, a mark at {from}"
+            );
+        }
+    }
+}
+
+#[test]
+fn a_mark_in_between_leads_nowhere(rt: HostRuntime) {
+    for at in 1..112usize {
+        // load_imm right before, and fallthrough further back
+        let mut bytes = [1; 112];
+        bytes[at - 1] = 51;
+        let mask = [255; 14];
+        assert!(rt; !is_start(&Code::new(&bytes, &mask), at as u64), "at {at}");
+    }
 }

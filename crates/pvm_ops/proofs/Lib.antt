@@ -8,3 +8,4 @@ pub mod ReadBack
 pub mod Padding
 pub mod MaskWindow
 pub mod NextMark
+pub mod LastMark

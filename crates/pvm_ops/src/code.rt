@@ -1,9 +1,12 @@
-ghost use Rattle.std.specs.Prelude.{◌≡◌, ℕ, ◌+◌, ◌/◌, ◌<◌, ◌≤◌, ◌^◌, length, slice_index};
+ghost use Rattle.std.specs.Prelude.{◌≡◌, ℕ, ◌+◌, ◌-◌, ◌/◌, ◌<◌, ◌≤◌, ◌^◌, true, false, length, slice_index, MatchOption};
 ghost use Rattle.std.specs.Int.{bit_at};
 ghost use Rattle.pvm_ops.specs.Listing.{is_marked, skip};
 
 use crate::windows::{byte, window};
 use std::marker::Model;
+
+/// The most bytes that an instruction takes with its operands, as far as the code is walked: an opcode and 24 more.
+const REACH: u64 = 25;
 
 /// The bytes of a code with its mask, both lent: a bit for each byte, the lowest bit of a byte first, set where an
 /// instruction starts.
@@ -79,6 +82,27 @@ impl<'a> Code<'a> {
         let marks = window(self.mask, (next / 8) as usize) >> (next % 8);
         first_mark(marks, limit as u8)
     }
+
+    /// The nearest mark before a position of the code. Only the 25 positions before it are looked at, since no
+    /// instruction from further back ends at it.
+    pub fn mark_before(&self, at: u64) -> Option<u64>
+        requires { at < length self.now.bytes }
+        ensures { MatchOption result ((p : ℕ) → p < at → at ≤ p + 25 → is_marked self.now p ≡ false) (λ from. (from < at) × (at ≤ from + 25) × (is_marked self.now from ≡ true) × ((p : ℕ) → from < p → p < at → is_marked self.now p ≡ false)) }
+    {
+        if at == 0 {
+            return None;
+        }
+        let last = at - 1;
+        // Four bytes of the mask that end with the last position's, or the first four.
+        let start = (last / 8).saturating_sub(3);
+        let marks = window(self.mask, start as usize);
+        let back = u64::from(unset_from(marks, (last - 8 * start) as u32));
+        if back < REACH {
+            Some(last - back)
+        } else {
+            None
+        }
+    }
 }
 
 /// The place of the lowest bit that is set, or the limit where none is set below it.
@@ -89,4 +113,13 @@ fn first_mark(marks: u32, limit: u8) -> u8
     ensures here { result < limit → bit_at marks result ≡ 1 }
 {
     (marks | 1 << limit).trailing_zeros() as u8
+}
+
+/// How many bits from a place downwards are not set, before the first that is, and 32 where none is.
+fn unset_from(marks: u32, top: u32) -> u32
+    requires { top < 32 }
+    ensures unset { (j : ℕ) → j < result → j ≤ top → bit_at marks (top - j) ≡ 0 }
+    ensures set { result < 32 → (result ≤ top) × (bit_at marks (top - result) ≡ 1) }
+{
+    (marks << (31 - top)).leading_zeros()
 }
