@@ -1,4 +1,4 @@
-pub mod Numbers
+pub mod SignParts
 pub mod Lengths
 pub mod Skipping
 pub mod LastBlock

@@ -1,5 +1,7 @@
-ghost use Rattle.std.specs.Prelude.{◌≡◌, ℕ, ◌+◌, ◌-◌, ◌/◌, ◌<◌, ◌≤◌, ◌^◌, true, false, length, slice_index, MatchOption};
+ghost use Rattle.std.specs.Prelude.{◌≡◌, ℕ, ◌+◌, ◌-◌, ◌*◌, ◌/◌, ◌%◌, ◌<◌, ◌≤◌, ◌^◌, true, false, length, slice_index, MatchOption};
 ghost use Rattle.std.specs.Int.{bit_at};
+ghost use Rattle.numbers.specs.Bytes.{number_of};
+ghost use Rattle.pvm_ops.specs.Fetch.{bytes_from};
 ghost use Rattle.pvm_ops.specs.Listing.{is_marked, skip};
 
 use crate::windows::{byte, window};
@@ -66,6 +68,14 @@ impl<'a> Code<'a> {
         ensures { result ≡ slice_index self.now.bytes at }
     {
         byte(self.bytes, at)
+    }
+
+    /// The number that the four bytes at a position spell, the lowest first. Zeros follow the code.
+    pub(crate) fn window(&self, at: usize) -> u32
+        requires { at < 2 ^ 63 + 128 }
+        ensures { (n : ℕ) → n ≤ 4 → result % 2 ^ (8 * n) ≡ number_of (bytes_from self.now.bytes at n) }
+    {
+        window(self.bytes, at)
     }
 
     /// How many bytes of operands follow the opcode at a position, at most 24.

@@ -6,8 +6,8 @@ ghost use Rattle.pvm_ops.specs.Fetch.{bytes_from, immediate, fetch_of, operands,
 use crate::code::Code;
 use crate::forms::Form;
 use crate::instr::{Fetched, Instr};
-use crate::opcodes::{form, known};
-use crate::words::extended;
+use crate::opcodes::form_if_known;
+use crate::words::sign_extended;
 
 /// The instruction at a position, and the position after it.
 ///
@@ -25,11 +25,11 @@ pub fn fetch(code: &Code<'_>, at: u64) -> Fetched
     let len = code.len();
     prove!(at < len);
     let op = code.byte(at as usize);
-    if !known(op) {
+    let Some(form) = form_if_known(op) else {
         return missing(at);
-    }
+    };
     let e = code.skip(at);
-    let instr = operands(code, at as usize, op, e, form(op));
+    let instr = operands(code, at as usize, op, e, form);
     Fetched {
         instr,
         next: at + 1 + u64::from(e),
@@ -82,7 +82,7 @@ fn operands(code: &Code<'_>, at: usize, op: u8, e: u8, form: Form) -> Instr
         },
         Form::RE => Instr {
             a: low,
-            x: number(code, at + 2, 8),
+            x: long(code, at + 2),
             ..none
         },
         Form::XY => {
@@ -177,29 +177,13 @@ fn short(code: &Code<'_>, at: usize, len: u8) -> u64
     requires near { at < 2 ^ 63 + 64 }
     ensures { result ≡ immediate code.now.bytes at len }
 {
-    let value = number(code, at, len);
-    match len {
-        0 => 0,
-        1 => extended(value, 0x80, 0xffff_ffff_ffff_ff00),
-        2 => extended(value, 0x8000, 0xffff_ffff_ffff_0000),
-        3 => extended(value, 0x80_0000, 0xffff_ffff_ff00_0000),
-        _ => extended(value, 0x8000_0000, 0xffff_ffff_0000_0000),
-    }
+    sign_extended(code.window(at), len)
 }
 
-/// The number that some bytes spell, the lowest first.
-#[tactic(auto, using(crate::proofs::Numbers::numbers))]
-fn number(code: &Code<'_>, at: usize, len: u8) -> u64
-    requires few { len ≤ 8 }
-    requires near { at < 2 ^ 63 + 64 }
-    ensures value { result ≡ number_of (bytes_from code.now.bytes at len) }
-    ensures bound { result < 256 ^ len }
+/// The immediate of eight bytes at a position.
+fn long(code: &Code<'_>, at: usize) -> u64
+    requires { at < 2 ^ 63 + 64 }
+    ensures { result ≡ immediate code.now.bytes at 8 }
 {
-    let mut value = 0;
-    let mut left = len;
-    while 0 < left {
-        left -= 1;
-        value = value * 256 + u64::from(code.byte(at + usize::from(left)));
-    }
-    value
+    u64::from(code.window(at)) + u64::from(code.window(at + 4)) * 0x1_0000_0000
 }

@@ -1,4 +1,4 @@
-ghost use Rattle.std.specs.Prelude.{◌≡◌, ◌≤◌, ◌+◌, ◌/◌, length as len_of, IsTrue};
+ghost use Rattle.std.specs.Prelude.{◌≡◌, ◌<◌, ◌≤◌, ◌+◌, ◌/◌, length as len_of, IsTrue};
 ghost use Rattle.pvm_ops.specs.Opcodes.{is_known};
 ghost use Rattle.pvm_ops.specs.Spelling.{IsEncodable};
 
@@ -497,6 +497,85 @@ fn passes_operands_in_a_long_code(rt: HostRuntime) {
                 want,
                 "at {at}, a mark at {end}"
             );
+        }
+    }
+}
+
+/// Bytes of all kinds, with and without their highest bit.
+fn patterned() -> [u8; 128] {
+    let mut bytes = [0; 128];
+    for (i, byte) in bytes.iter_mut().enumerate() {
+        *byte = (i * 37 % 256) as u8;
+    }
+    bytes
+}
+
+/// What is fetched at a position of a code of such bytes, which has the opcode there and ends before another.
+fn fetched_of(op: u8, at: usize, end: usize) -> Instr
+    requires before { at < end }
+    requires within { end ≤ 128 }
+{
+    let mut bytes = patterned();
+    bytes[at] = op;
+    let mut mask = [0; 16];
+    mask[at / 8] |= 1u8 << (at % 8);
+    fetch(
+        &Code::new(&bytes[..end], &mask[..end.div_ceil(8)]),
+        at as u64,
+    )
+    .instr
+}
+
+/// The immediate of some of such bytes, from the highest down, where zeros follow the code that ends before another.
+fn plain_immediate(at: usize, len: usize, end: usize) -> u64
+    requires near { at < 1000 }
+    requires few { len ≤ 8 }
+    requires within { end ≤ 128 }
+{
+    let bytes = patterned();
+    let mut value = 0;
+    for i in (0..len).rev() {
+        let byte = if at + i < end { bytes[at + i] } else { 0 };
+        let above = if i + 1 == len && byte >= 128 {
+            u64::MAX
+        } else {
+            value
+        };
+        value = above << 8 | u64::from(byte);
+    }
+    value
+}
+
+#[test]
+fn fetches_immediates_up_to_the_end_of_a_long_code(rt: HostRuntime) {
+    let bytes = patterned();
+    for at in 64..80usize {
+        for behind in 0..=40usize {
+            let end = at + 1 + behind;
+            let few = behind.min(24);
+            let load = fetched_of(51, at, end);
+            let want = plain_immediate(at + 2, few.saturating_sub(1).min(4), end);
+            assert_eq!(rt; load.x, want, "load_imm at {at} of {end}");
+            let wide = fetched_of(20, at, end);
+            assert_eq!(rt;
+                wide.x,
+                plain_immediate(at + 2, 8, end),
+                "load_imm_64 at {at} of {end}"
+            );
+            let store = fetched_of(30, at, end);
+            let len = if behind > 0 {
+                usize::from(bytes[at + 1] % 8).min(4)
+            } else {
+                0
+            };
+            assert_eq!(rt;
+                store.x,
+                plain_immediate(at + 2, len, end),
+                "store_imm_u8 at {at} of {end}"
+            );
+            let left = few.saturating_sub(len).saturating_sub(1).min(4);
+            let want = plain_immediate(at + 2 + len, left, end);
+            assert_eq!(rt; store.y, want, "store_imm_u8 at {at} of {end}");
         }
     }
 }
