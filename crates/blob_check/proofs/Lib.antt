@@ -1,1 +1,2 @@
 pub mod LooksBack
+pub mod Faults

@@ -4,8 +4,10 @@
 //! `specs/Starts.antt` has the definitions.
 #![tactic(auto)]
 
+mod checking;
 mod starts;
 #[cfg(test)]
 mod tests;
 
+pub use checking::{CheckFault, Checked, check};
 pub use starts::is_start;

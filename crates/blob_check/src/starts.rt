@@ -18,7 +18,7 @@ pub fn is_start(code: &Code<'_>, at: u64) -> bool
 }
 
 /// The opcode of the instruction that is marked at a position.
-fn opcode(code: &Code<'_>, at: u64) -> u8
+pub(crate) fn opcode(code: &Code<'_>, at: u64) -> u8
     requires { is_marked code.now at ≡ true }
     ensures { result ≡ slice_index code.now.bytes at }
 {
@@ -37,7 +37,7 @@ fn follows(code: &Code<'_>, at: u64) -> bool
 }
 
 /// Whether instructions of the opcode end a block.
-fn is_terminator(op: u8) -> bool
+pub(crate) fn is_terminator(op: u8) -> bool
     ensures { result ≡ is_terminator op }
 {
     matches!(op, 0..=1 | 40 | 50 | 80..=90 | 170..=175 | 180)

@@ -1,7 +1,9 @@
 ghost use Rattle.std.specs.Prelude.{◌<◌};
 
 use super::*;
+use blob_codec::Program;
 use pvm_ops::Code;
+use std::process::Abort;
 use std::test::*;
 
 #[test]
@@ -81,4 +83,64 @@ fn a_mark_in_between_leads_nowhere(rt: HostRuntime) {
         let mask = [255; 14];
         assert!(rt; !is_start(&Code::new(&bytes, &mask), at as u64), "at {at}");
     }
+}
+
+/// What a check answers of the program that the bytes are.
+fn answers(rt: &impl Abort, bytes: &[u8], want: Option<CheckFault>) {
+    let Ok(program) = Program::read(bytes) else {
+        assert!(rt; false, "no program");
+        return;
+    };
+    assert_eq!(rt; check(program).err(), want);
+}
+
+#[test]
+fn checks_programs(rt: HostRuntime) {
+    let rt = &rt;
+    // jump @5, load_imm r7 5, jump_ind r0 0
+    let program = [0, 1, 10, 0x28, 5, 0, 0, 0, 0x33, 7, 5, 0x32, 0, 0x21, 0x01];
+    answers(rt, &program, None);
+    // the same with a table that leads to position 5
+    let with_table = [
+        1, 1, 10, 5, 0x28, 5, 0, 0, 0, 0x33, 7, 5, 0x32, 0, 0x21, 0x01,
+    ];
+    answers(rt, &with_table, None);
+}
+
+#[test]
+fn tells_the_first_fault(rt: HostRuntime) {
+    let rt = &rt;
+    // no code; load_imm r7 0 at position 1 alone
+    answers(rt, &[0, 1, 0], Some(CheckFault::NoFirst));
+    answers(rt, &[0, 1, 2, 0x33, 7, 2], Some(CheckFault::NoFirst));
+    // fallthrough, an unknown opcode, and a byte that no instruction starts at or that is one
+    answers(
+        rt,
+        &[0, 1, 3, 1, 0xff, 0, 7],
+        Some(CheckFault::UnknownOpcode(1)),
+    );
+    answers(
+        rt,
+        &[0, 1, 3, 1, 0xff, 0, 3],
+        Some(CheckFault::UnknownOpcode(1)),
+    );
+    // a jump into itself, and one before the code
+    answers(rt, &[0, 1, 2, 0x28, 1, 1], Some(CheckFault::BadTarget(0)));
+    answers(
+        rt,
+        &[0, 1, 2, 0x28, 0xff, 1],
+        Some(CheckFault::BadTarget(0)),
+    );
+    // load_imm_jump r7 0 @4, whose target stands in its second field, and trap
+    answers(
+        rt,
+        &[0, 1, 4, 0x50, 0x17, 0, 3, 1],
+        Some(CheckFault::BadTarget(0)),
+    );
+    // load_imm r7 0, alone and with a table
+    answers(rt, &[0, 1, 2, 0x33, 7, 1], Some(CheckFault::OpenEnd(0)));
+    answers(rt, &[1, 1, 2, 9, 0x33, 7, 1], Some(CheckFault::OpenEnd(0)));
+    // trap, with tables that lead past it
+    answers(rt, &[1, 1, 1, 5, 0, 1], Some(CheckFault::BadEntry(0)));
+    answers(rt, &[3, 1, 1, 0, 1, 2, 0, 1], Some(CheckFault::BadEntry(1)));
 }

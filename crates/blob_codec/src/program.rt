@@ -103,7 +103,7 @@ impl<'a> Program<'a> {
     }
 
     /// The same program, lent once more.
-    pub(crate) fn lent_again(&self) -> Program<'a>
+    pub fn lent_again(&self) -> Program<'a>
         ensures { result ≡ self.now }
     {
         Program {
