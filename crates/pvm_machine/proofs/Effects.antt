@@ -3,7 +3,7 @@
 use Rattle.std.proofs.Common.{◌≡◌, ℕ, zero, suc, Bool, true, false, List, Option, Some, None, refl, ap, ◌∙◌, sym, nat_eq}
 use Rattle.std.specs.Prelude.{◌+◌, ◌%◌, ◌/◌, ◌^◌, if◌then◌else◌, map, slice_get}
 use Rattle.arithmetic.specs.Operations.{holds}
-use Rattle.runs.specs.Machine.{Outcome, Next, Jump, Call, Ends, retarget}
+use Rattle.runs.specs.Machine.{Outcome, Next, Jump, Ends, retarget}
 use Rattle.runs.specs.Numbers.{halt_address, entry, named, to_named, jump_by}
 use Rattle.runs.proofs.Numbers.{jump_by_map}
 use Rattle.machine_state.specs.State.{State, register, with_register}

@@ -1,5 +1,5 @@
-use Rattle.std.proofs.Common.{◌≡◌, sym, ◌∙◌, ap}
-use Rattle.machine_state.specs.State.{State, with_register}
+use Rattle.std.proofs.Common.{sym, ◌∙◌, ap}
+use Rattle.machine_state.specs.State.{with_register}
 use Rattle.pvm_machine.specs.Outcomes.{outcome_of, with_registers}
 use Rattle.pvm_machine.proofs.Does.{does_as, put_as_is}
 use Rattle.pvm_machine.proofs.instructions.act.Goals as goal
