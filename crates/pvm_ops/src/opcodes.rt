@@ -15,111 +15,29 @@ pub fn form(op: u8) -> Form
     requires { IsTrue (is_known op) }
     ensures { result ≡ form_of op }
 {
+    // The condition rules the default out.
     form_if_known(op).unwrap_or(Form::N)
 }
 
 /// The form of an opcode, where it is one of the table.
-///
-/// Each opcode is named, and no range, so that the compiler makes a look-up of it.
 #[tactic(auto, unfolding(crate::specs::Opcodes::is_known, crate::specs::Opcodes::form_of))]
 pub(crate) fn form_if_known(op: u8) -> Option<Form>
     ensures { MatchOption result (is_known op ≡ false) (λ form. (is_known op ≡ true) × (form ≡ form_of op)) }
 {
     match op {
-        0 | 1 => Some(Form::N),
+        0..=1 => Some(Form::N),
         10 => Some(Form::X),
         20 => Some(Form::RE),
-        30 | 31 | 32 | 33 => Some(Form::XY),
+        30..=33 => Some(Form::XY),
         40 => Some(Form::O),
-        50 | 51 | 52 | 53 | 54 | 55 | 56 | 57 | 58 | 59 | 60 | 61 | 62 => Some(Form::RX),
-        70 | 71 | 72 | 73 => Some(Form::RXY),
-        80 | 81 | 82 | 83 | 84 | 85 | 86 | 87 | 88 | 89 | 90 => Some(Form::RXO),
-        100 | 101 | 102 | 103 | 104 | 105 | 106 | 107 | 108 | 109 | 110 | 111 => Some(Form::RR),
-        120
-        | 121
-        | 122
-        | 123
-        | 124
-        | 125
-        | 126
-        | 127
-        | 128
-        | 129
-        | 130
-        | 131
-        | 132
-        | 133
-        | 134
-        | 135
-        | 136
-        | 137
-        | 138
-        | 139
-        | 140
-        | 141
-        | 142
-        | 143
-        | 144
-        | 145
-        | 146
-        | 147
-        | 148
-        | 149
-        | 150
-        | 151
-        | 152
-        | 153
-        | 154
-        | 155
-        | 156
-        | 157
-        | 158
-        | 159
-        | 160
-        | 161 => Some(Form::RRX),
-        170 | 171 | 172 | 173 | 174 | 175 => Some(Form::RRO),
+        50..=62 => Some(Form::RX),
+        70..=73 => Some(Form::RXY),
+        80..=90 => Some(Form::RXO),
+        100..=111 => Some(Form::RR),
+        120..=161 => Some(Form::RRX),
+        170..=175 => Some(Form::RRO),
         180 => Some(Form::RRXY),
-        190
-        | 191
-        | 192
-        | 193
-        | 194
-        | 195
-        | 196
-        | 197
-        | 198
-        | 199
-        | 200
-        | 201
-        | 202
-        | 203
-        | 204
-        | 205
-        | 206
-        | 207
-        | 208
-        | 209
-        | 210
-        | 211
-        | 212
-        | 213
-        | 214
-        | 215
-        | 216
-        | 217
-        | 218
-        | 219
-        | 220
-        | 221
-        | 222
-        | 223
-        | 224
-        | 225
-        | 226
-        | 227
-        | 228
-        | 229
-        | 230 => Some(Form::RRR),
+        190..=230 => Some(Form::RRR),
         _ => None,
     }
 }
