@@ -1,20 +1,20 @@
 -- A linked program agrees with its objects: the two locks and the stretches, composed.
-use Rattle.std.proofs.Common.{◌≡◌, ℕ, ◌+◌, ◌-◌, ◌*◌, ◌%◌, ◌^◌, ◌<◌, ◌≤◌, List, [], ◌∷◌, map, length, Option, Some, None, refl, sym, ap, ◌∙◌, subst, arith, get_or, true, false, Bool}
-use Rattle.std.specs.Prelude.{slice_get, slice_index, nat_lt, nat_eq, option_map, ◌&&◌, ◌||◌, IsTrue}
+use Rattle.std.proofs.Common.{◌≡◌, ℕ, ◌+◌, ◌*◌, ◌^◌, ◌<◌, ◌≤◌, List, [], ◌∷◌, map, length, Some, refl, sym, ap, ◌∙◌, subst, arith, get_or, true, false, Bool}
+use Rattle.std.specs.Prelude.{slice_get, option_map, ◌&&◌}
 use Rattle.std.proofs.lemmas.Bool.{ltb-true}
 use Rattle.std.proofs.lemmas.List.{length-map}
 use Rattle.std.proofs.lemmas.Option.{slice_get-map, slice_get-get_or}
 use Rattle.numbers.specs.Words.{sum_64}
 use Rattle.runs.specs.Turn.{Goes}
-use Rattle.runs.specs.Machine.{Jump, At, move}
-use Rattle.runs.specs.Runs.{run, pay_run}
+use Rattle.runs.specs.Machine.{Jump, move}
+use Rattle.runs.specs.Runs.{run}
 use Rattle.runs.specs.Agree.{Agree}
-use Rattle.runs.specs.Laid.{Fetched, act_on, step_at, Laid}
+use Rattle.runs.specs.Laid.{act_on, step_at, Laid}
 use Rattle.runs.specs.Pieces.{Cut, all_ops, all_instrs, op_place, instr_place}
 use Rattle.runs.specs.Blocks.{block_of}
 use Rattle.runs.proofs.Whole.{whole}
 use Rattle.machine_state.specs.State.{State, IsState}
-use Rattle.machine_state.specs.Ends.{End, no_host, rules}
+use Rattle.machine_state.specs.Ends.{no_host, rules}
 use Rattle.machine_state.specs.Start.{start_state}
 use Rattle.machine_state.specs.Laws.{StartIsGood}
 use Rattle.symbols.specs.Wanted.{Given}
@@ -24,21 +24,19 @@ use Rattle.symbols.specs.Resolution.{definition_of}
 use Rattle.lift_blocks.specs.Step.{op_does, fetch_op}
 use Rattle.lift_blocks.specs.Laws.{SourceLock}
 use Rattle.pvm_ops.specs.Listing.{Listing, is_marked}
-use Rattle.pvm_ops.specs.Opcodes.{form_of}
-use Rattle.pvm_ops.specs.BlockList.{Block, BlockList}
+use Rattle.pvm_ops.specs.BlockList.{BlockList}
 use Rattle.blob_check.specs.Starts.{is_start}
 use Rattle.pvm_machine.specs.Effect.{effect}
 use Rattle.pvm_machine.specs.Step.{land, does_at, instr_at}
 use Rattle.pvm_machine.specs.Laws.{EffectIsRenamed, EffectIsPlain, EffectIsNamed}
-use Rattle.jump_table.specs.Assembly.{entry_len, jump, offset, instrs_of, instr_position, first_of, start_of, code_of, table_of}
-use Rattle.jump_table.specs.Laws.{Fetches, IsPlain, IsPlaced, CodeIsPlaced}
+use Rattle.jump_table.specs.Assembly.{entry_len, jump, offset, instr_position, start_of, code_of, table_of}
+use Rattle.jump_table.specs.Laws.{IsPlain, IsPlaced, CodeIsPlaced}
 use Rattle.lower.specs.Lowering.{lowered_blocks}
 use Rattle.lower.specs.Cutting.{pieces, instr_does, instr_places}
 use Rattle.lower.specs.Laws.{LoweredIsCut, BlocksAreAll, EntriesBegin, BlocksStand, SameInstrs, SamePlaces, LoweredIsPlain}
-use Rattle.blob_codec.specs.Grammar.{Container}
 use Rattle.link_core.specs.Runs.{source_run, machine_run, image_of}
 use Rattle.link_core.specs.Agrees.{Agrees}
-use Rattle.link_core.specs.Linked.{container_of, IsLinked}
+use Rattle.link_core.specs.Linked.{container_of}
 use Rattle.link_core.specs.Laws.{LinkedAgrees}
 use Rattle.pvm_ops.proofs.Table as table
 use Rattle.pvm_machine.proofs.Opcodes as operation

@@ -1,26 +1,23 @@
 -- The lock of the PVM: the instructions by number are laid into the code by position.
-use Rattle.std.proofs.Common.{◌≡◌, ℕ, zero, suc, ◌+◌, ◌-◌, ◌*◌, ◌/◌, ◌%◌, ◌^◌, ◌<◌, ◌≤◌, List, [], ◌∷◌, map, true, false, length, Bool, Option, Some, None, refl, sym, ap, ◌∙◌, subst, arith, eqb-true}
-use Rattle.std.specs.Prelude.{slice_get, slice_index, nat_eq, cond, if◌then◌else◌, option_map, IsTrue, ◌==◌, ◌&&◌}
+use Rattle.std.proofs.Common.{◌≡◌, ℕ, ◌+◌, List, map, true, false, Bool, Option, Some, None, refl, sym, ap, ◌∙◌}
+use Rattle.std.specs.Prelude.{slice_get, option_map}
 use Rattle.std.proofs.lemmas.Option.{slice_get-map}
 use Rattle.numbers.specs.Words.{sum_64}
-use Rattle.runs.specs.Machine.{Outcome, Next, Jump, Call, Ends, Rules, retarget}
-use Rattle.runs.specs.Numbers.{entry, named, to_named, jump_by}
-use Rattle.runs.specs.Laid.{Fetched, GoesOn, LaidAt, Laid}
-use Rattle.machine_state.specs.State.{State, register, with_register}
-use Rattle.machine_state.specs.Ends.{End, Host, panic, halt, rules}
-use Rattle.pvm_ops.specs.declared.instr.Instr.{Instr}
-use Rattle.pvm_ops.specs.Listing.{Listing, is_marked}
-use Rattle.pvm_ops.specs.Opcodes.{is_known, form_of}
-use Rattle.pvm_ops.specs.Fetch.{fetch_of}
+use Rattle.runs.specs.Machine.{Outcome, Next, Jump, Call, Ends, retarget}
+use Rattle.runs.specs.Laid.{GoesOn, LaidAt, Laid}
+use Rattle.machine_state.specs.State.{State}
+use Rattle.machine_state.specs.Ends.{End, Host}
+use Rattle.pvm_ops.specs.Listing.{Listing}
+use Rattle.pvm_ops.specs.Opcodes.{form_of}
 use Rattle.pvm_ops.specs.Offsets.{offset_of, has_offset}
-use Rattle.pvm_ops.specs.BlockList.{Block, BlockList}
+use Rattle.pvm_ops.specs.BlockList.{BlockList}
 use Rattle.blob_check.specs.Starts.{is_start}
 use Rattle.pvm_machine.specs.Effect.{effect}
-use Rattle.pvm_machine.specs.Step.{Standing, land, does_at, stands, instr_at}
+use Rattle.pvm_machine.specs.Step.{land, does_at, instr_at}
 use Rattle.pvm_machine.proofs.Standings.{instr_stands, none_stands}
 use Rattle.pvm_machine.specs.Laws.{EffectIsRenamed, EffectIsPlain, EffectIsNamed, IsNamed}
-use Rattle.jump_table.specs.Assembly.{instrs_of, instr_position, first_of, start_of}
-use Rattle.jump_table.specs.Laws.{IsPlain, Fetches, IsPlaced}
+use Rattle.jump_table.specs.Assembly.{instrs_of, instr_position}
+use Rattle.jump_table.specs.Laws.{IsPlain, IsPlaced}
 use Rattle.lower.specs.Cutting.{Aimed, instr_does}
 
 -- a jump to where blocks start lands
