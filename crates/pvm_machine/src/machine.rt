@@ -114,6 +114,8 @@ impl<'a> Machine<'a> {
     }
 
     /// Makes steps until one does not answer `Next`, and gives its answer.
+    // A function of its own, so that the steps have the processor's registers to themselves.
+    #[inline(never)]
     pub fn run(&mut self) -> Exit
         ensures steps { record { machine = self.new; answer = last_answer result } ≡ all_steps self.old }
         ensures run { IsRun self.old self.new (last_answer result) }

@@ -80,20 +80,21 @@ pub(crate) fn decode(op: u8) -> Operation
     requires { IsTrue (is_known op) }
     ensures { result ≡ operation_of op }
 {
+    // The opcodes that programs have most come first.
     match op {
+        190..=230 => of_rrr(op),
+        120..=161 => of_rrx(op),
+        80..=90 => of_rxo(op),
+        170..=175 => of_rro(op),
+        100..=111 => of_rr(op),
+        50..=62 => of_rx(op),
+        40 => Operation::Jump,
+        180 => Operation::LoadImmJumpInd,
         0..=1 => of_n(op),
         10 => Operation::Ecalli,
         20 => Operation::LoadImm64,
         30..=33 => of_xy(op),
-        40 => Operation::Jump,
-        50..=62 => of_rx(op),
-        70..=73 => of_rxy(op),
-        80..=90 => of_rxo(op),
-        100..=111 => of_rr(op),
-        120..=161 => of_rrx(op),
-        170..=175 => of_rro(op),
-        180 => Operation::LoadImmJumpInd,
-        _ => of_rrr(op),
+        _ => of_rxy(op),
     }
 }
 
