@@ -2,7 +2,6 @@ mod Names
 mod Naming
 mod Data
 mod Digits
-mod Fronts
 mod Zeros
 mod Packing
 mod Placing

@@ -3,7 +3,7 @@ use Rattle.outside.specs.Outside.{Rose, AppendsFront}
 use Rattle.polkatool_cmd.specs.Transcript.{transcript, end_line, gas_line}
 use Rattle.polkatool_cmd.specs.Running.{IsZero, end_of}
 use Rattle.polkatool_cmd.proofs.Answering.{run_of-exit}
-use Rattle.polkatool_cmd.proofs.Fronts.{AppendsFront-after, AppendsFront-longer}
+use Rattle.outside.proofs.Fronts.{AppendsFront-after, AppendsFront-longer}
 use Rattle.polkatool_cmd.proofs.run.finish.Goals as goal
 
 pub put_end-requires-clause-zero : goal.put_end-requires-clause-zero

@@ -2,7 +2,7 @@ use Rattle.std.proofs.Common.{◌*◌, ◌++◌, replicate}
 use Rattle.std.specs.Prelude.{codes}
 use Rattle.std.proofs.lemmas.Result.{err_from_is_err_and}
 use Rattle.std.proofs.KnownBytes.{Appends-trans}
-use Rattle.polkatool_cmd.proofs.Fronts.{AppendsFront-after, AppendsFront-longer}
+use Rattle.outside.proofs.Fronts.{AppendsFront-after, AppendsFront-longer}
 use Rattle.polkatool_cmd.proofs.run.put_halt.Goals as goal
 
 pub returns-in_err-put-clause-err : goal.returns-in_err-put-clause-err

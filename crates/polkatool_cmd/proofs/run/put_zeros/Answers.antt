@@ -3,7 +3,7 @@ use Rattle.std.specs.Io.KnownBytes.{Appends}
 use Rattle.std.proofs.lemmas.Result.{err_from_is_err_and}
 use Rattle.std.proofs.KnownBytes.{Appends-trans}
 use Rattle.outside.specs.Outside.{AppendsFront}
-use Rattle.polkatool_cmd.proofs.Fronts.{AppendsFront-after, AppendsFront-longer}
+use Rattle.outside.proofs.Fronts.{AppendsFront-after, AppendsFront-longer}
 use Rattle.polkatool_cmd.proofs.Zeros.{zeros-more, zeros-rest}
 use Rattle.polkatool_cmd.proofs.run.put_zeros.Goals as goal
 
