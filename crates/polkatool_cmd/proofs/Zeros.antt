@@ -7,7 +7,8 @@ use Rattle.machine_state.specs.State.{State}
 use Rattle.machine_state.specs.Output.{bytes_of, output_range}
 use Rattle.pvm_machine.specs.declared.answers.Exit.{Exit}
 use Rattle.pvm_machine.specs.declared.answers.Exit.TheVariants as exit
-use Rattle.polkatool_cmd.specs.Transcript.{hex, end_line}
+use Rattle.disasm.specs.Digits.{hex}
+use Rattle.polkatool_cmd.specs.Transcript.{end_line}
 use Rattle.polkatool_cmd.specs.Running.{IsZero, end_of, output_len}
 
 -- a piece of zeros

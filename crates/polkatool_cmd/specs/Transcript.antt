@@ -1,23 +1,11 @@
 -- The transcript of a run: a line for each host call, one for the end, and one for the gas that is left.
-use Rattle.std.specs.Prelude.{ℕ, zero, suc, ◌/◌, ◌%◌, List, [], ◌∷◌, ◌++◌, Option, Some, None, codes}
-use Rattle.std.specs.Char.{digit_char}
+use Rattle.std.specs.Prelude.{ℕ, List, ◌++◌, Option, Some, None, codes}
 use Rattle.std.specs.List.{flat_map}
 use Rattle.runs.specs.Runs.{Paid}
 use Rattle.machine_state.specs.Ends.{Event, End, Halt, Panic, Fault, Unanswered, BadReply}
 use Rattle.machine_state.specs.Output.{output}
+use Rattle.disasm.specs.Digits.{hex, hex_digits}
 use Rattle.polkatool_cmd.specs.Lines.{field}
-
--- bytes in lower-case hexadecimal, two digits each
-abbrev pub byte_digits : ℕ → List ℕ
-byte_digits byte = digit_char (byte / 16) ∷ digit_char (byte % 16) ∷ []
-
-abbrev pub hex : List ℕ → List ℕ
-hex bytes = flat_map byte_digits bytes
-
--- the lowest hexadecimal digits of a number, so many of them, the highest first
-abbrev pub hex_digits : ℕ → ℕ → List ℕ
-hex_digits zero n = []
-hex_digits (suc count) n = hex_digits count (n / 16) ++ digit_char (n % 16) ∷ []
 
 -- the line of a host call: its number, and the registers in sixteen digits each
 unfoldable pub event_line : Event → List ℕ

@@ -1,0 +1,3 @@
+mod Adding
+mod Names
+mod Texts
