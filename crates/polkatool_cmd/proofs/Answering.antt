@@ -15,7 +15,6 @@ use Rattle.pvm_machine.specs.declared.answers.Exit.TheVariants as exit
 use Rattle.polkatool_cmd.specs.declared.answer.Answer.{Answer}
 use Rattle.polkatool_cmd.specs.declared.answer.Answer.TheVariants as answers
 use Rattle.polkatool_cmd.specs.Faults.{first_fault, too_large}
-use Rattle.polkatool_cmd.specs.RunFaults.{first_run_fault}
 use Rattle.polkatool_cmd.specs.Answers.{World, Holds, HasFault, HoldsRun, RunComesTo}
 use Rattle.polkatool_cmd.specs.Running.{Tells, end_of}
 
@@ -27,22 +26,26 @@ long_file (suc n) = let rest = long_file n in (0 ∷ rest.0, omega (arith, rest.
 pub first_fault-long : (file : List ℕ) → 2 ^ 24 < length file → first_fault file ≡ Some too_large
 first_fault-long file long = rw (lt-ltb (2 ^ 24) (length file) long) refl
 
--- and so has a blob's
-pub first_run_fault-long :
-    (entry : ℕ) (file : List ℕ) → 2 ^ 27 < length file → first_run_fault entry file ≡ Some too_large
-first_run_fault-long entry file long = rw (lt-ltb (2 ^ 27) (length file) long) refl
-
-read_too_large : (first_of : List ℕ → Option Fault) (limit : ℕ) → ((file : List ℕ) → limit < length file → first_of file ≡ Some too_large) → (files : Option Files) (name : List ℕ) → AnswersRead files name limit (Err TooLarge) → HasFault first_of files name (Some too_large)
-read_too_large first_of limit is_first None name answer =
+-- a file that is too large for its read
+pub long-read :
+    (files : Option Files) (name : List ℕ) (limit : ℕ) (fault : ReadFault) → fault ≡ TooLarge
+    → AnswersRead files name limit (Err fault) → (file : List ℕ) × Holds files name file × (limit < length file)
+long-read None name limit fault is answer =
     let long = long_file (limit + 1) in
-    record { file = long.0; held = tt; first = is_first long.0 (omega (arith, long.1)) }
-read_too_large first_of limit is_first (Some files) name answer = record { file = answer.0; held = answer.1; first = is_first answer.0 answer.2 }
+    (long.0, tt, omega (arith, long.1))
+long-read (Some files) name limit fault is answer =
+    let P : ReadFault → Type 0 = λ f. AnswersRead (Some files) name limit (Err f) in
+    subst P is answer
 
--- a file that is too large for its read has the fault of such files
-pub HasFault-too_large : (first_of : List ℕ → Option Fault) (limit : ℕ) → ((file : List ℕ) → limit < length file → first_of file ≡ Some too_large) → (files : Option Files) (name : List ℕ) (fault : ReadFault) → fault ≡ TooLarge → AnswersRead files name limit (Err fault) → HasFault first_of files name (Some too_large)
+-- it has the fault of such files
+pub HasFault-too_large :
+    (first_of : List ℕ → Option Fault) (limit : ℕ)
+    → ((file : List ℕ) → limit < length file → first_of file ≡ Some too_large)
+    → (files : Option Files) (name : List ℕ) (fault : ReadFault) → fault ≡ TooLarge
+    → AnswersRead files name limit (Err fault) → HasFault first_of files name (Some too_large)
 HasFault-too_large first_of limit is_first files name fault is answer =
-    let P : ReadFault → Type 0 = λ f. AnswersRead files name limit (Err f) in
-    read_too_large first_of limit is_first files name (subst P is answer)
+    let long = long-read files name limit fault is answer in
+    record { file = long.0; held = long.1; first = is_first long.0 long.2 }
 
 -- what a name is read to hold it holds
 pub held-read : (files : Option Files) (name : List ℕ) (limit : ℕ) (bytes : List ℕ) → AnswersRead files name limit (Ok bytes) → Holds files name bytes

@@ -8,6 +8,7 @@ mod Placing
 mod Containers
 mod Objects
 mod Answering
+mod Blobs
 pub mod StraightWords
 pub mod StraightOrder
 pub mod StraightBlocks

@@ -7,13 +7,16 @@ use Rattle.runs.specs.Runs.{Paid}
 use Rattle.machine_state.specs.Ends.{Event, End}
 use Rattle.blob_codec.specs.Grammar.{Container}
 use Rattle.blob_codec.specs.Reading.{container_of}
+use Rattle.disasm.specs.Disassembly.{disassembly}
 use Rattle.link_core.specs.Runs.{machine_run}
-use Rattle.polkatool_cmd.specs.Commands.{Command, Link, Run}
+use Rattle.polkatool_cmd.specs.Commands.{Command, Link, Run, Check, Disassemble}
 use Rattle.polkatool_cmd.specs.Faults.{first_fault, Links}
+use Rattle.polkatool_cmd.specs.BlobFaults.{first_disassemble_fault}
 use Rattle.polkatool_cmd.specs.RunFaults.{first_run_fault}
+use Rattle.polkatool_cmd.specs.CheckFaults.{first_check_fault}
 use Rattle.polkatool_cmd.specs.Transcript.{transcript}
 use Rattle.polkatool_cmd.specs.Statuses.{status_of}
-use Rattle.polkatool_cmd.specs.Lines.{map_text, usage_line, file_fault_line, memory_line, refused_line}
+use Rattle.polkatool_cmd.specs.Lines.{map_text, ok_text, usage_line, file_fault_line, memory_line, refused_line}
 use Rattle.polkatool_cmd.specs.declared.answer.Answer.{Answer}
 use Rattle.polkatool_cmd.specs.declared.answer.Answer.TheVariants as answers
 use Rattle.polkatool_cmd.specs.declared.status.Status.{Status}
@@ -88,14 +91,19 @@ LinkComesTo output object answers.FileFault old new =
     FailedRead object old new ⊎ (FailedWrite object old new ⊎ FailedPut output object old new)
 LinkComesTo output object answers.Memory old new = new ≡ old
 
+-- the name holds a container, in whose file there is no such fault
+pub record HoldsContainer (first_of : List ℕ → Option Fault) (files : Option Files) (blob : List ℕ)
+    (container : Container) : Type 0 where
+  pub file : List ℕ
+  pub held : Holds files blob file
+  pub no_fault : first_of file ≡ None
+  pub is_container : container_of file ≡ Ok container
+
 -- The name holds a container without a fault at the entry, and this is its run from there, without an argument and with
 -- so much gas.
 pub record HoldsRun (files : Option Files) (entry gas : ℕ) (blob : List ℕ) (run : Paid Event End) : Type 0 where
-  pub file : List ℕ
   pub container : Container
-  pub held : Holds files blob file
-  pub no_fault : first_run_fault entry file ≡ None
-  pub is_container : container_of file ≡ Ok container
+  pub holds : HoldsContainer (first_run_fault entry) files blob container
   pub run_is : run ≡ machine_run container entry [] gas
 
 -- The run ended with this status, and its transcript was put; all else is as before.
@@ -128,11 +136,53 @@ RunComesTo entry gas blob answers.FileFault old new =
     FailedRead blob old new ⊎ FailedTranscript entry gas blob old new
 RunComesTo entry gas blob answers.Memory old new = new ≡ old
 
+-- The name holds a container without such a fault, and its text was put; all else is as before.
+pub record HasTold (first_of : List ℕ → Option Fault) (text_of : Container → List ℕ) (blob : List ℕ)
+    (old new : World) : Type 0 where
+  pub container : Container
+  pub holds : HoldsContainer first_of old.files blob container
+  pub told : Appends old.out new.out (text_of container)
+  pub others : new ≡ record old { out = new.out }
+
+-- A put of the container's text failed after a front of it; all else is as before.
+pub record FailedText (first_of : List ℕ → Option Fault) (text_of : Container → List ℕ) (blob : List ℕ)
+    (old new : World) : Type 0 where
+  pub container : Container
+  pub holds : HoldsContainer first_of old.files blob container
+  pub told : AppendsFront old.out new.out (text_of container)
+  pub cause : Rose old.puts new.puts
+  pub others : new ≡ record old { out = new.out; puts = new.puts }
+
+-- What a command comes to that puts a text of a container: the text is put; or the command is refused with the first
+-- fault of the blob's file; or a read or a put failed; or memory was refused. After a refusal and after want of memory
+-- all is as before.
+abbrev pub TextComesTo : (List ℕ → Option Fault) → (Container → List ℕ) → List ℕ → Answer → World → World → Type 0
+TextComesTo first_of text_of blob answers.Done old new = HasTold first_of text_of blob old new
+TextComesTo first_of text_of blob (answers.Refused fault) old new =
+    HasFault first_of old.files blob (Some fault) × (new ≡ old)
+TextComesTo first_of text_of blob answers.Panicked old new = ⊥
+TextComesTo first_of text_of blob answers.OutOfGas old new = ⊥
+TextComesTo first_of text_of blob answers.Usage old new = ⊥
+TextComesTo first_of text_of blob answers.FileFault old new =
+    FailedRead blob old new ⊎ FailedText first_of text_of blob old new
+TextComesTo first_of text_of blob answers.Memory old new = new ≡ old
+
+-- what a check comes to: its text says that there is no fault
+abbrev pub CheckComesTo : List ℕ → Answer → World → World → Type 0
+CheckComesTo blob answer old new = TextComesTo first_check_fault (λ c. ok_text) blob answer old new
+
+-- what a disassembly comes to: it is the text, and every container has one
+abbrev pub DisassembleComesTo : List ℕ → Answer → World → World → Type 0
+DisassembleComesTo blob answer old new =
+    TextComesTo first_disassemble_fault (λ c. disassembly c.program) blob answer old new
+
 -- What the words come to: a faulty command line is answered as one, and all is as before.
 abbrev pub ComesTo : Option Command → Answer → World → World → Type 0
 ComesTo None answer old new = (answer ≡ answers.Usage) × (new ≡ old)
 ComesTo (Some (Link output object)) answer old new = LinkComesTo output object answer old new
 ComesTo (Some (Run entry gas blob)) answer old new = RunComesTo entry gas blob answer old new
+ComesTo (Some (Check blob)) answer old new = CheckComesTo blob answer old new
+ComesTo (Some (Disassemble blob)) answer old new = DisassembleComesTo blob answer old new
 
 -- the line was put on err, and the status is the wanted one
 pub record IsPut (line : List ℕ) (wanted status : Status) (old new : Stream) : Type 0 where
@@ -170,3 +220,5 @@ abbrev pub KeepsFiles : Option Command → Option Files → Option Files → Typ
 KeepsFiles None old new = new ≡ old
 KeepsFiles (Some (Link output object)) old new = KeepsOthers output old new
 KeepsFiles (Some (Run entry gas blob)) old new = new ≡ old
+KeepsFiles (Some (Check blob)) old new = new ≡ old
+KeepsFiles (Some (Disassemble blob)) old new = new ≡ old

@@ -7,11 +7,13 @@ use Rattle.polkatool_cmd.specs.declared.commands.Command.{Command as Asked}
 use Rattle.polkatool_cmd.specs.declared.commands.Command.TheVariants as asked
 use Rattle.polkatool_cmd.specs.declared.run_words.RunWords.{RunWords as Read}
 
--- A command with its values: to link the object of one name into the output of another, and to run the blob of a name
--- from an entry with so much gas.
+-- A command with its values: to link the object of one name into the output of another, to run the blob of a name from
+-- an entry with so much gas, to check it, and to disassemble it.
 pub data Command : Type 0 where
   Link : (output object : List ℕ) → Command
   Run : (entry gas : ℕ) (blob : List ℕ) → Command
+  Check : (blob : List ℕ) → Command
+  Disassemble : (blob : List ℕ) → Command
 
 -- a word that names a file: it is not empty, and UTF-8
 abbrev pub is_name : List ℕ → Bool
@@ -112,19 +114,28 @@ run_of None = None
 run_of (Some words) =
     option_map (Run (unwrap_or words.entry default_entry) (unwrap_or words.gas default_gas)) words.blob
 
--- The command that the words are: link -o OUT OBJ, or run and in any order a BLOB, --entry I and --gas N. None where
--- they are a faulty command line.
+-- the blob that the one word behind a verb names
+abbrev pub blob_of : List (List ℕ) → Option (List ℕ)
+blob_of (word ∷ []) = file_of word
+blob_of words = None
+
+-- The command that the words are: link -o OUT OBJ; run and in any order a BLOB, --entry I and --gas N; check BLOB; or
+-- disassemble BLOB. None where they are a faulty command line.
 abbrev pub command_of : List (List ℕ) → Option Command
 command_of [] = None
 command_of (verb ∷ words) =
     if bytes_eq verb (codes "link") then link_of words
     else (if bytes_eq verb (codes "run") then run_of (run_words (Some no_words) words)
-    else None)
+    else (if bytes_eq verb (codes "check") then option_map Check (blob_of words)
+    else (if bytes_eq verb (codes "disassemble") then option_map Disassemble (blob_of words)
+    else None)))
 
 -- the command that was asked for
 abbrev pub command_in : Asked → Command
 command_in (asked.Link c) = Link c.output.now c.object.now
 command_in (asked.Run c) = Run c.entry c.gas c.blob.now
+command_in (asked.Check blob) = Check blob.now
+command_in (asked.Disassemble blob) = Disassemble blob.now
 
 -- what was read so far
 abbrev pub words_in : Read → RunWords

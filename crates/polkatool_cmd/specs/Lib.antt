@@ -5,7 +5,10 @@ pub mod LinkFaults
 pub mod Faults
 pub mod Statuses
 pub mod Lines
+pub mod BlobFaults
 pub mod RunFaults
+pub mod CheckFaults
 pub mod Transcript
 pub mod Answers
 pub mod Running
+pub mod Blobs

@@ -7,6 +7,10 @@ use Rattle.elf_objects.specs.declared.fault.Fault.{Fault}
 abbrev pub map_text : List ℕ
 map_text = codes "entry 0 00000005 main\n"
 
+-- what a check of a program without a fault puts
+abbrev pub ok_text : List ℕ
+ok_text = codes "ok\n"
+
 -- the lines on err for a faulty command line, for a call outside that failed, and for want of memory
 abbrev pub usage_line : List ℕ
 usage_line = codes "polkatool: bad command line\n"
@@ -26,8 +30,13 @@ name_of code =
     else (if code == 43 then codes "BadPadding"
     else (if code == 44 then codes "LeftOver"
     else (if code == 47 then codes "BadEntry"
+    else (if code == 50 then codes "NoFirst"
+    else (if code == 51 then codes "UnknownOpcode"
+    else (if code == 52 then codes "BadTarget"
+    else (if code == 53 then codes "BadEntry"
+    else (if code == 54 then codes "OpenEnd"
     else (if code == 61 then codes "FileTooLarge"
-    else codes "NotBuilt"))))))
+    else codes "NotBuilt")))))))))))
 
 -- a label and a number in decimal
 abbrev pub field : List ℕ → ℕ → List ℕ

@@ -1,32 +1,13 @@
 -- Why what a file holds isn't run.
-use Rattle.std.specs.Prelude.{ℕ, ◌*◌, ◌^◌, List, [], ◌∷◌, length, Bool, not, ◌&&◌, ◌==◌, nat_lt, nat_le, Option, Some, Result, Ok, Err, slice_index}
+use Rattle.std.specs.Prelude.{ℕ, ◌*◌, List, [], ◌∷◌, length, Bool, not, ◌&&◌, ◌==◌, nat_le, Option, slice_index}
 use Rattle.std.specs.List.{list_any}
 use Rattle.std.specs.Option.{option_map}
 use Rattle.faults.specs.First.{◌or_else◌, where_true, least_below}
 use Rattle.elf_objects.specs.declared.fault.Fault.{Fault}
 use Rattle.pvm_ops.specs.Listing.{Listing, is_marked}
 use Rattle.blob_check.specs.Starts.{is_start}
-use Rattle.blob_codec.specs.declared.fault.BlobFault.{BlobFault}
-use Rattle.blob_codec.specs.declared.fault.BlobFault.TheVariants.{Truncated, Overlong, BadWidth, BadPadding, LeftOver}
 use Rattle.blob_codec.specs.Grammar.{Container}
-use Rattle.blob_codec.specs.Reading.{container_of}
-use Rattle.polkatool_cmd.specs.Faults.{too_large}
-
--- a fault of a blob, at an offset that the code gives a meaning: all other fields are 0
-abbrev pub blob_fault_at : ℕ → ℕ → Fault
-blob_fault_at code offset = record { code = code; object = 0; section = 0; offset = offset }
-
--- a fault of a blob as a whole: all fields are 0
-abbrev pub blob_fault : ℕ → Fault
-blob_fault code = blob_fault_at code 0
-
--- the code of what keeps bytes from being a container
-abbrev pub code_of : BlobFault → ℕ
-code_of Truncated = 40
-code_of Overlong = 41
-code_of BadWidth = 42
-code_of BadPadding = 43
-code_of LeftOver = 44
+use Rattle.polkatool_cmd.specs.BlobFaults.{blob_fault, blob_fault_at, first_blob_fault}
 
 -- the opcodes that aren't run so far, from the first to the last of each range
 abbrev pub unbuilt_opcodes : List (ℕ × ℕ)
@@ -54,15 +35,11 @@ unbuilt_form c =
 abbrev pub entry_fault : ℕ → Container → Option Fault
 entry_fault entry c = where_true (not (is_start c.program.code (5 * entry))) (blob_fault 47)
 
--- the fault of bytes that are no container, or of a container at an entry
-abbrev pub container_fault : ℕ → Result Container BlobFault → Option Fault
-container_fault entry (Err fault) = Some (blob_fault (code_of fault))
-container_fault entry (Ok c) = unbuilt_form c or_else entry_fault entry c
+-- The fault of a container that is to be run from an entry: a form that isn't built so far; no block starts where the
+-- jump of the entry is to stand.
+abbrev pub run_fault_in : ℕ → Container → Option Fault
+run_fault_in entry c = unbuilt_form c or_else entry_fault entry c
 
--- The first fault of what a file holds, in this order: more than 2^27 bytes; no container, by the first fault that is
--- met in reading it; a form that isn't built so far; no block starts where the jump of the entry is to stand. None where
--- there is no fault.
+-- the first fault of a file whose container is to be run from an entry
 abbrev pub first_run_fault : ℕ → List ℕ → Option Fault
-first_run_fault entry file =
-    where_true (nat_lt (2 ^ 27) (length file)) too_large
-    or_else container_fault entry (container_of file)
+first_run_fault entry file = first_blob_fault (run_fault_in entry) file

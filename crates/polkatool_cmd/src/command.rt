@@ -4,7 +4,9 @@ ghost use Rattle.polkatool_cmd.specs.Commands.{Link, command_of};
 ghost use Rattle.polkatool_cmd.specs.Answers.{ComesTo, KeepsFiles};
 
 use crate::answer::Answer;
+use crate::check::check_blob;
 use crate::commands::{Command, LinkCommand};
+use crate::disassemble::disassemble_blob;
 use crate::link::link_file;
 use crate::link_fault::LinkFault;
 use crate::report::FILE_TOO_LARGE;
@@ -47,6 +49,8 @@ pub(crate) fn answer_to<F: Folder, O: Sink>(
     match command_of(words) {
         Some(Command::Link(command)) => link(alloc, &command, files, out),
         Some(Command::Run(command)) => run(alloc, &command, files, out),
+        Some(Command::Check(blob)) => check_blob(alloc, blob, files, out),
+        Some(Command::Disassemble(blob)) => disassemble_blob(alloc, blob, files, out),
         None => Answer::Usage,
     }
 }

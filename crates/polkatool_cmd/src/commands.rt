@@ -3,6 +3,10 @@
 pub(crate) enum Command<'a> {
     Link(LinkCommand<'a>),
     Run(RunCommand<'a>),
+    /// The check of a program, by the name of its file.
+    Check(&'a str),
+    /// The disassembly of a program, by the name of its file.
+    Disassemble(&'a str),
 }
 
 /// The link of one object into an output, by the names of their files.

@@ -1,7 +1,8 @@
 //! The top call: a list of words, a folder and two sinks give a status.
 //!
-//! `specs/Commands.antt` says which words are a command, `specs/Faults.antt` why an object isn't linked and
-//! `specs/Answers.antt` what a command comes to and how that is told.
+//! `specs/Commands.antt` says which words are a command, `specs/Faults.antt` why an object isn't linked, `specs/BlobFaults.antt`
+//! why what a file holds is no container, `specs/RunFaults.antt` and `specs/CheckFaults.antt` why a container isn't run or is
+//! no checked one, and `specs/Answers.antt` what a command comes to and how that is told.
 #![tactic(auto)]
 
 ghost use Rattle.polkatool_cmd.specs.Commands.{command_of};
@@ -10,8 +11,13 @@ ghost use Rattle.polkatool_cmd.specs.Straight.{StraightIsLinked};
 
 mod answer;
 mod assembly;
+mod blob;
+#[cfg(test)]
+mod blob_tests;
+mod check;
 mod command;
 mod commands;
+mod disassemble;
 mod link;
 mod link_fault;
 mod lowering;
@@ -39,8 +45,9 @@ pub use words::Words;
 ///
 /// The words are `link -o OUT OBJ`: the object in the file OBJ is linked into the file OUT, and its map is put on out.
 /// Or they are `run` and, in any order, BLOB, `--entry I` and `--gas N`: the container in the file BLOB is run from entry I,
-/// 0 without it, with gas N, 10,000,000 without it, and the transcript of the run is put on out. All other words are a
-/// faulty command line, for which no memory is taken.
+/// 0 without it, with gas N, 10,000,000 without it, and the transcript of the run is put on out. Or they are `check BLOB`:
+/// where the container's program has no fault, `ok` and a line feed are put on out. Or `disassemble BLOB`: the text of the
+/// program is put on out, whatever a check would say. All other words are a faulty command line, for which no memory is taken.
 pub fn polkatool<F: Folder, O: Sink, E: Sink>(
     alloc: Global,
     words: &Words,

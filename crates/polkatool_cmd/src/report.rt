@@ -26,6 +26,20 @@ pub(crate) const LEFT_OVER: u8 = 44;
 /// The code of a program at whose entry no block starts.
 pub(crate) const BAD_ENTRY: u8 = 47;
 
+/// The code of a program at whose position 0 no block starts.
+pub(crate) const NO_FIRST: u8 = 50;
+
+/// The codes of what is wrong with an instruction of a program.
+pub(crate) const UNKNOWN_OPCODE: u8 = 51;
+
+pub(crate) const BAD_TARGET: u8 = 52;
+
+/// The code of a jump table with an entry at whose position no block starts.
+pub(crate) const BAD_TABLE_ENTRY: u8 = 53;
+
+/// The code of a program whose last instruction ends no block.
+pub(crate) const OPEN_END: u8 = 54;
+
 /// The code of a file with too many bytes.
 pub(crate) const FILE_TOO_LARGE: u8 = 61;
 
@@ -109,7 +123,7 @@ pub(crate) fn push_field(label: &str, number: u64, line: &mut ArrayString<LINE_L
 /// The name of a fault's code.
 fn fault_name(code: u8) -> &'static str
     ensures name { result.now ≡ name_of code }
-    ensures short { length result.now ≤ 12 }
+    ensures short { length result.now ≤ 13 }
 {
     match code {
         TRUNCATED => "Truncated",
@@ -118,6 +132,11 @@ fn fault_name(code: u8) -> &'static str
         BAD_PADDING => "BadPadding",
         LEFT_OVER => "LeftOver",
         BAD_ENTRY => "BadEntry",
+        NO_FIRST => "NoFirst",
+        UNKNOWN_OPCODE => "UnknownOpcode",
+        BAD_TARGET => "BadTarget",
+        BAD_TABLE_ENTRY => "BadEntry",
+        OPEN_END => "OpenEnd",
         FILE_TOO_LARGE => "FileTooLarge",
         _ => "NotBuilt",
     }

@@ -12,18 +12,16 @@ ghost use Rattle.polkatool_cmd.specs.Answers.{ComesTo};
 ghost use Rattle.polkatool_cmd.specs.Running.{Starts, FailsToStart, Tells, EndsAs, IsZero, end_of, output_len};
 
 use crate::answer::Answer;
+use crate::blob::{blob_fault, read_blob};
 use crate::commands::RunCommand;
-use crate::report::{BAD_ENTRY, FILE_TOO_LARGE, push_field};
-use crate::run_fault::{RunFault, blob_fault, unbuilt_form};
+use crate::report::{BAD_ENTRY, push_field};
+use crate::run_fault::{RunFault, unbuilt_form};
 use arrayvec::ArrayString;
 use blob_codec::Container;
 use machine_state::empty_start_is_zero;
-use outside::{Failed, Folder, ReadFault, Sink};
+use outside::{Failed, Folder, Sink};
 use pvm_machine::{Exit, Machine, StartFault, memory_stays};
 use std::alloc::Global;
-
-/// The most bytes of a blob's file, 2^27.
-const BLOB_LIMIT: u32 = 1 << 27;
 
 /// How many digits of a long output are put at once.
 const PIECE_LEN: usize = 256;
@@ -52,11 +50,9 @@ pub(crate) fn run<F: Folder, O: Sink>(
         }) }
     ensures files { F.files files.new ≡ F.files files.old }
 {
-    let file = match files.read(alloc, command.blob, BLOB_LIMIT) {
+    let file = match read_blob(alloc, command.blob, files) {
         Ok(file) => file,
-        Err(ReadFault::Failed) => return Answer::FileFault,
-        Err(ReadFault::TooLarge) => return Answer::Refused(blob_fault(FILE_TOO_LARGE)),
-        Err(ReadFault::Memory) => return Answer::Memory,
+        Err(answer) => return answer,
     };
     match start(alloc, file.as_slice(), command.entry, command.gas) {
         Ok(mut machine) => finish(&mut machine, out),

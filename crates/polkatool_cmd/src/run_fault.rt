@@ -3,10 +3,10 @@
 ghost use Rattle.std.specs.Prelude.{◌≡◌, length};
 ghost use Rattle.faults.specs.First.{least_below};
 ghost use Rattle.polkatool_cmd.specs.declared.run_fault.RunFault.TheVariants.{Bad};
-ghost use Rattle.polkatool_cmd.specs.RunFaults.{blob_fault_at, blob_fault as blob_fault_of, code_of};
+ghost use Rattle.polkatool_cmd.specs.BlobFaults.{no_container};
 ghost use Rattle.polkatool_cmd.specs.RunFaults.{has_data, unbuilt_form, is_unbuilt, is_unbuilt_at};
 
-use crate::report::{BAD_PADDING, BAD_WIDTH, LEFT_OVER, OVERLONG, TRUNCATED};
+use crate::blob::{blob_fault, blob_fault_at, no_container};
 use blob_codec::{BlobFault, Container};
 use elf_objects::{Fault, NOT_BUILT};
 use pvm_ops::Code;
@@ -21,42 +21,10 @@ pub(crate) enum RunFault {
 }
 
 impl From<BlobFault> for RunFault {
-    ghost from_gives = { λ found fault. fault ≡ Bad (blob_fault_of (code_of found)) };
+    ghost from_gives = { λ found fault. fault ≡ Bad (no_container found) };
 
     fn from(fault: BlobFault) -> RunFault {
-        RunFault::Bad(blob_fault(code_of(fault)))
-    }
-}
-
-/// A fault of a blob as a whole.
-pub(crate) fn blob_fault(code: u8) -> Fault
-    ensures { result ≡ blob_fault_of code }
-{
-    blob_fault_at(code, 0)
-}
-
-/// A fault of a blob at an offset.
-fn blob_fault_at(code: u8, offset: u64) -> Fault
-    ensures { result ≡ blob_fault_at code offset }
-{
-    Fault {
-        code,
-        object: 0,
-        section: 0,
-        offset,
-    }
-}
-
-/// The code of what keeps bytes from being a container.
-fn code_of(fault: BlobFault) -> u8
-    ensures { result ≡ code_of fault }
-{
-    match fault {
-        BlobFault::Truncated => TRUNCATED,
-        BlobFault::Overlong => OVERLONG,
-        BlobFault::BadWidth => BAD_WIDTH,
-        BlobFault::BadPadding => BAD_PADDING,
-        BlobFault::LeftOver => LEFT_OVER,
+        RunFault::Bad(no_container(fault))
     }
 }
 

@@ -14,21 +14,21 @@ const OF_LONG_OUTPUT: [u8; 30] = [
 ];
 
 /// The program of `examples/five`, whose code is `jump 5`, `load_imm a0, 5` and `jump_ind ra, 0`.
-const FIVE: &[u8; 15] = b"\x00\x01\x0a\x28\x05\0\0\0\x33\x07\x05\x32\0\x21\x01";
+pub(crate) const FIVE: &[u8; 15] = b"\x00\x01\x0a\x28\x05\0\0\0\x33\x07\x05\x32\0\x21\x01";
 
 /// A program whose code is `load_imm a0, 5` and, at position 3, `ecalli 0`.
 const OF_A_CALL: &[u8; 9] = b"\x00\x01\x05\x33\x07\x05\x0a\0\x09";
 
 /// Its container has a byte of read-only data.
-const OF_READ_ONLY_DATA: [u8; 25] = [
+pub(crate) const OF_READ_ONLY_DATA: [u8; 25] = [
     1, 0, 0, 0, 0, 0, 0, 0, 0, 0, 1, 0x2a, 0x09, 0, 0, 0, 0, 0x01, 0x05, 0x33, 0x07, 0x05, 0x0a, 0,
     0x09,
 ];
 
-const FILE_FAULT: &[u8; 22] = b"polkatool: file fault\n";
+pub(crate) const FILE_FAULT: &[u8; 22] = b"polkatool: file fault\n";
 
 /// A folder with a blob under `b`, and room on out for a long output.
-fn outside_of(alloc: Global, blob: &[u8]) -> Result<Outside, AllocError> {
+pub(crate) fn outside_of(alloc: Global, blob: &[u8]) -> Result<Outside, AllocError> {
     let mut files = MemoryFolder::new(alloc);
     files.add("b", blob)?;
     Ok(Outside {
@@ -39,14 +39,14 @@ fn outside_of(alloc: Global, blob: &[u8]) -> Result<Outside, AllocError> {
 }
 
 /// A container with a stack of 65,536 bytes and these bytes behind it, of which so many are said to be its program.
-fn blob(alloc: Global, len: u8, program: &[u8]) -> Result<Vec<u8>, AllocError> {
+pub(crate) fn blob(alloc: Global, len: u8, program: &[u8]) -> Result<Vec<u8>, AllocError> {
     let mut blob = Vec::from_slice(alloc, &[0, 0, 0, 0, 0, 0, 0, 0, 0, 0, 1, len, 0, 0, 0])?;
     blob.extend_from_slice(program)?;
     Ok(blob)
 }
 
 /// Whether the words, with this blob, come to the status and leave these bytes on out and err.
-fn runs_to(
+pub(crate) fn runs_to(
     alloc: Global,
     blob: &[u8],
     line: &[&[u8]],

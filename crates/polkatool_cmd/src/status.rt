@@ -6,7 +6,7 @@ ghost use Rattle.polkatool_cmd.specs.Statuses.{number_of};
 pub enum Status {
     /// The work is done.
     Done,
-    /// The object has a fault. The line on err says which, and where.
+    /// The file that was read has a fault. The line on err says which, and where.
     Refused,
     /// The words are a faulty command line.
     Usage,

@@ -1,6 +1,6 @@
 ghost use Rattle.std.specs.Prelude.{◌≡◌, ◌++◌, ◌∷◌, [], OnOk, OnErr};
-ghost use Rattle.std.specs.Option.{option_map};
-ghost use Rattle.polkatool_cmd.specs.Commands.{command_of, command_in, link_of};
+ghost use Rattle.std.specs.Option.{option_copied, option_map};
+ghost use Rattle.polkatool_cmd.specs.Commands.{command_of, command_in, link_of, blob_of};
 
 use crate::commands::{Command, LinkCommand};
 use crate::run_words::run_of;
@@ -62,6 +62,10 @@ pub(crate) fn command_of(words: &Words) -> Option<Command<'_>>
         link_of(rest)
     } else if verb.as_slice() == b"run".as_slice() {
         run_of(rest)
+    } else if verb.as_slice() == b"check".as_slice() {
+        Some(Command::Check(blob_of(rest)?))
+    } else if verb.as_slice() == b"disassemble".as_slice() {
+        Some(Command::Disassemble(blob_of(rest)?))
     } else {
         None
     }
@@ -77,6 +81,16 @@ fn link_of(words: &[Bytes]) -> Option<Command<'_>>
             let object = file(object.as_slice())?;
             Some(Command::Link(LinkCommand { output, object }))
         }
+        _ => None,
+    }
+}
+
+/// The blob that the one word behind the verb names.
+fn blob_of(words: &[Bytes]) -> Option<&str>
+    ensures { option_copied result ≡ blob_of words.now }
+{
+    match words {
+        [blob] => file(blob.as_slice()),
         _ => None,
     }
 }

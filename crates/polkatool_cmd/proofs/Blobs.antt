@@ -1,0 +1,70 @@
+-- What reading a blob and its container makes of a command.
+use Rattle.std.proofs.Common.{◌≡◌, ℕ, ◌^◌, ◌<◌, List, length, Option, Some, Err, refl, sym, ap, ◌∙◌, inl}
+use Rattle.std.proofs.lemmas.Bool.{lt-ltb}
+use Rattle.outside.specs.Outside.{Files, AnswersRead}
+use Rattle.outside.specs.declared.folder.ReadFault.{ReadFault}
+use Rattle.outside.specs.declared.folder.ReadFault.TheVariants.{TooLarge}
+use Rattle.elf_objects.specs.declared.fault.Fault.{Fault}
+use Rattle.blob_codec.specs.Grammar.{Container}
+use Rattle.polkatool_cmd.specs.declared.answer.Answer.{Answer}
+use Rattle.polkatool_cmd.specs.declared.answer.Answer.TheVariants as answers
+use Rattle.polkatool_cmd.specs.Faults.{too_large}
+use Rattle.polkatool_cmd.specs.BlobFaults.{first_blob_fault}
+use Rattle.polkatool_cmd.specs.RunFaults.{run_fault_in}
+use Rattle.polkatool_cmd.specs.Answers.{World, HasFault, TextComesTo, RunComesTo}
+use Rattle.polkatool_cmd.specs.Blobs.{HoldsTooLarge, FailsToRead}
+use Rattle.polkatool_cmd.proofs.Answering.{long-read}
+
+-- a file that is too large has that fault
+pub first_blob_fault-long :
+    (fault_in : Container → Option Fault) (file : List ℕ) → 2 ^ 27 < length file
+    → first_blob_fault fault_in file ≡ Some too_large
+first_blob_fault-long fault_in file long = rw (lt-ltb (2 ^ 27) (length file) long) refl
+
+-- a read that finds too many bytes
+pub HoldsTooLarge-read :
+    (files : Option Files) (name : List ℕ) (fault : ReadFault) → fault ≡ TooLarge
+    → AnswersRead files name (2 ^ 27) (Err fault) → HoldsTooLarge files name
+HoldsTooLarge-read files name fault is answer =
+    let long = long-read files name (2 ^ 27) fault is answer in
+    record { file = long.0; held = long.1; len = long.2 }
+
+HasFault-long :
+    (fault_in : Container → Option Fault) (files : Option Files) (name : List ℕ) (fault : Fault) → fault ≡ too_large
+    → HoldsTooLarge files name → HasFault (first_blob_fault fault_in) files name (Some fault)
+HasFault-long fault_in files name fault is long =
+    record { file = long.file; held = long.held; first = first_blob_fault-long fault_in long.file long.len ∙ ap (λ f. Some f) (sym is) }
+
+unchanged : (old new : World) → new ≡ record old { reads = new.reads } → new.reads ≡ old.reads → new ≡ old
+unchanged old new others kept = others ∙ ap (λ reads. record old { reads = reads }) kept
+
+-- a run whose blob wasn't read
+pub RunComesTo-unread :
+    (entry gas : ℕ) (blob : List ℕ) (answer : Answer) (old new : World)
+    → FailsToRead old.files blob old.reads new.reads answer → new ≡ record old { reads = new.reads }
+    → RunComesTo entry gas blob answer old new
+RunComesTo-unread entry gas blob answers.Done old new fails others = absurd fails
+RunComesTo-unread entry gas blob answers.Panicked old new fails others = absurd fails
+RunComesTo-unread entry gas blob answers.OutOfGas old new fails others = absurd fails
+RunComesTo-unread entry gas blob (answers.Refused fault) old new fails others =
+    (HasFault-long (run_fault_in entry) old.files blob fault fails.0 fails.1, unchanged old new others fails.2)
+RunComesTo-unread entry gas blob answers.Usage old new fails others = absurd fails
+RunComesTo-unread entry gas blob answers.FileFault old new fails others =
+    inl (record { cause = fails; others = others })
+RunComesTo-unread entry gas blob answers.Memory old new fails others = unchanged old new others fails
+
+-- a command that puts a text, whose blob wasn't read
+pub TextComesTo-unread :
+    (fault_in : Container → Option Fault) (text_of : Container → List ℕ) (blob : List ℕ) (answer : Answer)
+    (old new : World)
+    → FailsToRead old.files blob old.reads new.reads answer → new ≡ record old { reads = new.reads }
+    → TextComesTo (first_blob_fault fault_in) text_of blob answer old new
+TextComesTo-unread fault_in text_of blob answers.Done old new fails others = absurd fails
+TextComesTo-unread fault_in text_of blob answers.Panicked old new fails others = absurd fails
+TextComesTo-unread fault_in text_of blob answers.OutOfGas old new fails others = absurd fails
+TextComesTo-unread fault_in text_of blob (answers.Refused fault) old new fails others =
+    (HasFault-long fault_in old.files blob fault fails.0 fails.1, unchanged old new others fails.2)
+TextComesTo-unread fault_in text_of blob answers.Usage old new fails others = absurd fails
+TextComesTo-unread fault_in text_of blob answers.FileFault old new fails others =
+    inl (record { cause = fails; others = others })
+TextComesTo-unread fault_in text_of blob answers.Memory old new fails others = unchanged old new others fails

@@ -1,0 +1,38 @@
+-- What the parts of a command that reads a container come to.
+use Rattle.std.specs.Prelude.{◌≡◌, ◌⊎◌, ℕ, ◌^◌, ◌<◌, ◌≤◌, List, length, Option, Some, None}
+use Rattle.std.specs.Io.KnownBytes.{Appends}
+use Rattle.outside.specs.Outside.{Files, Rose, Missing, AppendsFront}
+use Rattle.elf_objects.specs.declared.fault.Fault.{Fault}
+use Rattle.polkatool_cmd.specs.Faults.{too_large}
+use Rattle.polkatool_cmd.specs.Answers.{Holds, Stream}
+use Rattle.polkatool_cmd.specs.declared.answer.Answer.{Answer}
+use Rattle.polkatool_cmd.specs.declared.answer.Answer.TheVariants as answers
+
+-- the name holds this file, which isn't too large for a blob
+pub record HoldsBlob (files : Option Files) (name file : List ℕ) : Type 0 where
+  pub held : Holds files name file
+  pub len : length file ≤ 2 ^ 27
+
+-- the name holds a file that is too large for a blob
+pub record HoldsTooLarge (files : Option Files) (name : List ℕ) : Type 0 where
+  pub file : List ℕ
+  pub held : Holds files name file
+  pub len : 2 ^ 27 < length file
+
+-- how a read of a blob that gave no bytes is answered, with the counts of failed reads before and after it
+abbrev pub FailsToRead : Option Files → List ℕ → ℕ → ℕ → Answer → Type 0
+FailsToRead files name before now answers.FileFault = Rose before now ⊎ Missing files name
+FailsToRead files name before now (answers.Refused fault) =
+    (fault ≡ too_large) × HoldsTooLarge files name × (now ≡ before)
+FailsToRead files name before now answers.Memory = now ≡ before
+FailsToRead files name before now answer = ⊥
+
+-- how the text of a container is told on a sink: by the whole text, or a put failed after a front of it; where there is
+-- a fault the answer is that one, and nothing is put
+abbrev pub TellsText : Option Fault → List ℕ → Answer → Stream → Stream → Type 0
+TellsText fault text answers.Done old new =
+    (fault ≡ None) × Appends old.text new.text text × (new.puts ≡ old.puts)
+TellsText fault text answers.FileFault old new =
+    (fault ≡ None) × AppendsFront old.text new.text text × Rose old.puts new.puts
+TellsText fault text (answers.Refused told) old new = (fault ≡ Some told) × (new ≡ old)
+TellsText fault text answer old new = ⊥

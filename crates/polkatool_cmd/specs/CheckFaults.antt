@@ -1,0 +1,26 @@
+-- Why a check refuses what a file holds.
+use Rattle.std.specs.Prelude.{List, ℕ, Option}
+use Rattle.std.specs.Option.{option_map}
+use Rattle.std.specs.Result.{result_err}
+use Rattle.elf_objects.specs.declared.fault.Fault.{Fault}
+use Rattle.blob_codec.specs.Grammar.{Container}
+use Rattle.blob_check.specs.Faults.{check_of}
+use Rattle.blob_check.specs.declared.checking.CheckFault.{CheckFault}
+use Rattle.blob_check.specs.declared.checking.CheckFault.TheVariants.{NoFirst, UnknownOpcode, BadTarget, BadEntry, OpenEnd}
+use Rattle.polkatool_cmd.specs.BlobFaults.{blob_fault, blob_fault_at, first_blob_fault}
+
+-- how the fault of a program is told: its position, or the number of its entry, is the offset
+abbrev pub check_fault : CheckFault → Fault
+check_fault NoFirst = blob_fault 50
+check_fault (UnknownOpcode at) = blob_fault_at 51 at
+check_fault (BadTarget at) = blob_fault_at 52 at
+check_fault (BadEntry entry) = blob_fault_at 53 entry
+check_fault (OpenEnd at) = blob_fault_at 54 at
+
+-- the first fault of a container's program
+abbrev pub check_fault_in : Container → Option Fault
+check_fault_in c = option_map check_fault (result_err (check_of c.program))
+
+-- the first fault of a file whose container is to be checked
+abbrev pub first_check_fault : List ℕ → Option Fault
+first_check_fault file = first_blob_fault check_fault_in file
