@@ -1,3 +1,4 @@
 mod Adding
+mod Hex
 mod Names
 mod Texts

@@ -102,7 +102,7 @@ fn push_position(at: u64, text: &mut Text)
     requires { array_string_len text.old + LINE_LEN ≤ PIECE_LEN }
     ensures { text.new.bytes ≡ text.old.bytes ++ (hex_digits 8 at ++ codes " ") }
 {
-    push_hex(8, at, text);
+    push_hex(4, at, text);
     text.push_str(" ");
 }
 

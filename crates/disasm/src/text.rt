@@ -1,7 +1,7 @@
 //! What is printed into the text that is kept until a piece of it is put.
 
 ghost use Rattle.std.specs.Prelude.{◌≡◌, ◌+◌, ◌*◌, ◌≤◌, ◌<◌, ◌++◌, true, ◌∷◌, [], length, codes, decimal, IsTrue, slice_index};
-ghost use Rattle.std.specs.Char.{digit_char};
+ghost use Rattle.std.specs.Str.{IsAscii};
 ghost use Rattle.std.specs.Fmt.{signed_decimal};
 ghost use Rattle.arrayvec.specs.ArrayString.{array_string_len};
 ghost use Rattle.pvm_ops.specs.Listing.{is_marked};
@@ -169,15 +169,15 @@ fn push_name(op: u8, text: &mut Text)
     text.push_str(name(op));
 }
 
-/// Adds the lowest hexadecimal digits of a number, so many of them.
-pub(crate) fn push_hex(count: u8, number: u64, text: &mut Text)
-    requires { array_string_len text.old + count ≤ PIECE_LEN }
-    ensures text { text.new.bytes ≡ text.old.bytes ++ hex_digits count number }
-    ensures len { array_string_len text.new ≡ array_string_len text.old + count }
+/// Adds the low bytes of a number in hexadecimal digits, the highest of them first.
+pub(crate) fn push_hex(bytes: u8, number: u64, text: &mut Text)
+    requires { array_string_len text.old + 2 * bytes ≤ PIECE_LEN }
+    ensures text { text.new.bytes ≡ text.old.bytes ++ hex_digits (2 * bytes) number }
+    ensures len { array_string_len text.new ≡ array_string_len text.old + 2 * bytes }
 {
-    if count > 0 {
-        push_hex(count - 1, number / 16, text);
-        text.push_str(digit((number % 16) as u8));
+    if bytes > 0 {
+        push_hex(bytes - 1, number / 256, text);
+        push_byte((number % 256) as u8, text);
     }
 }
 
@@ -187,31 +187,25 @@ pub(crate) fn push_byte(byte: u8, text: &mut Text)
     ensures text { text.new.bytes ≡ text.old.bytes ++ byte_digits byte }
     ensures len { array_string_len text.new ≡ array_string_len text.old + 2 }
 {
-    text.push_str(digit(byte / 16));
-    text.push_str(digit(byte % 16));
+    text.push_str(as_text(&digits(byte)));
 }
 
-/// A hexadecimal digit.
-fn digit(value: u8) -> &'static str
-    requires { value < 16 }
-    ensures { result.now ≡ digit_char value ∷ [] }
+/// The two digits of a byte.
+fn digits(byte: u8) -> [u8; 2]
+    ensures value { result ≡ byte_digits byte }
+    ensures ascii { IsAscii result }
 {
-    match value {
-        0 => "0",
-        1 => "1",
-        2 => "2",
-        3 => "3",
-        4 => "4",
-        5 => "5",
-        6 => "6",
-        7 => "7",
-        8 => "8",
-        9 => "9",
-        10 => "a",
-        11 => "b",
-        12 => "c",
-        13 => "d",
-        14 => "e",
-        _ => "f",
-    }
+    let mut digits = [0; 2];
+    let fits = hex::encode_to_slice([byte], &mut digits[..]);
+    prove!(fits.is_ok());
+    digits
+}
+
+/// Digits as text, which they are.
+#[tactic(auto, using(crate::proofs::Hex::ascii_is_text))]
+fn as_text(digits: &[u8]) -> &str
+    requires { IsAscii digits.now }
+    ensures { result.now ≡ digits.now }
+{
+    str::from_utf8(digits).unwrap_or("")
 }
