@@ -1,4 +1,5 @@
 pub mod Memory
+pub mod Access
 pub mod State
 pub mod Ends
 pub mod Start

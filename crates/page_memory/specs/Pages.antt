@@ -1,0 +1,38 @@
+-- How the pages of a memory are kept: an entry is a page of the memory only if it has a mode that allows something.
+use Rattle.std.specs.Prelude.{◌≡◌, ℕ, ◌≤◌, ◌^◌, List, [], ◌∷◌, Option, Some, None}
+use Rattle.std.specs.FinMap as map
+use Rattle.machine_state.specs.Memory as model
+use Rattle.page_memory.specs.declared.mode.Mode.{Mode}
+use Rattle.page_memory.specs.declared.mode.Mode.TheVariants.{Unmapped, Readable, Writable}
+
+-- what is kept for a page number
+pub record Kept : Type 0 where
+  pub mode : Mode
+  pub bytes : List ℕ
+
+-- the page that an entry is, where it is one
+abbrev pub page_with : Mode → List ℕ → Option model.Page
+page_with Unmapped bytes = None
+page_with Readable bytes = Some (record { mode = model.Readable; bytes = bytes })
+page_with Writable bytes = Some (record { mode = model.Writable; bytes = bytes })
+
+abbrev pub page_of : Kept → Option model.Page
+page_of kept = page_with kept.mode kept.bytes
+
+abbrev pub page_in : Option Kept → Option model.Page
+page_in None = None
+page_in (Some kept) = page_of kept
+
+-- the memory with a page at a number, or without one
+abbrev pub with_page : model.Memory → ℕ → Option model.Page → model.Memory
+with_page memory number None = map.remove memory number
+with_page memory number (Some page) = map.insert memory number page
+
+-- the memory of some entries
+unfoldable pub memory_of : List (ℕ × Kept) → model.Memory
+memory_of [] = model.no_memory
+memory_of (entry ∷ entries) = with_page (memory_of entries) entry.0 (page_of entry.1)
+
+-- no page has a number of 2^20 or more
+abbrev pub HasAddresses : model.Memory → Type 0
+HasAddresses memory = (number : ℕ) → 2 ^ 20 ≤ number → map.get memory number ≡ None

@@ -1,0 +1,98 @@
+ghost use Rattle.std.specs.Prelude.{◌≡◌};
+ghost use Rattle.std.specs.FinMap as map;
+ghost use Rattle.machine_state.specs.Memory.{no_memory};
+ghost use Rattle.machine_state.specs.Access.{byte_of, with_byte, is_refused};
+ghost use Rattle.page_memory.specs.Answers.{mode_of};
+
+use crate::mode::Mode;
+use crate::page::Page;
+use std::alloc::Global;
+use std::collections::BTreeMap;
+use std::marker::Model;
+
+/// A memory of 2^32 bytes in pages of 4096. Page numbers are addresses divided by 4096, so below 2^20.
+#[derive(Drop)]
+pub struct Memory {
+    pages: BTreeMap<u32, Page>,
+    mapped: u32,
+    alloc: Global,
+}
+
+impl Model for Memory {
+    ghost use Rattle.std.specs.Prelude.{◌≡◌};
+    ghost use Rattle.std.specs.FinMap as map;
+    ghost use Rattle.machine_state.specs.Memory as model;
+    ghost use Rattle.machine_state.specs.Codes.{memory_code};
+    ghost use Rattle.page_memory.specs.Pages.{memory_of, HasAddresses};
+
+    ghost Value = { model.Memory };
+
+    ghost coded = { memory_code };
+
+    ghost view = { λ m. memory_of m.pages.entries };
+
+    ghost invariant = { λ m. (m.mapped ≡ map.len (memory_of m.pages.entries)) × HasAddresses (memory_of m.pages.entries) };
+}
+
+impl Memory {
+    /// A memory without a page.
+    #[tactic(auto, unfolding(crate::specs::Pages::memory_of), using(crate::proofs::Views::nothing))]
+    pub fn new(alloc: Global) -> Memory
+        ensures { result ≡ no_memory }
+    {
+        Memory {
+            pages: BTreeMap::new(alloc),
+            mapped: 0,
+            alloc,
+        }
+    }
+
+    /// How many pages the memory has.
+    pub fn frames(&self) -> u32
+        ensures { result ≡ map.len self.now }
+    {
+        self.mapped
+    }
+
+    /// The mode of the page with a number. One that isn't in the memory is unmapped, as every number of 2^20 or more is.
+    #[tactic(auto, using(crate::proofs::Views::viewed))]
+    pub fn mode(&self, page: u32) -> Mode
+        ensures { result ≡ mode_of self.now page }
+    {
+        match self.pages.get(&page) {
+            Some(found) => found.mode(),
+            None => Mode::Unmapped,
+        }
+    }
+
+    /// The byte at an address, and 0 where its page isn't in the memory.
+    #[tactic(auto, using(crate::proofs::Views::viewed))]
+    pub(crate) fn byte(&self, at: u32) -> u8
+        ensures { result ≡ byte_of self.now at }
+    {
+        match self.pages.get(&(at / 4096)) {
+            Some(page) => page.byte((at % 4096) as usize),
+            None => 0,
+        }
+    }
+
+    /// Changes the byte at an address, and nothing where its page isn't in the memory.
+    pub(crate) fn put(&mut self, at: u32, byte: u8)
+        ensures { self.new ≡ with_byte self.old at byte }
+    {
+        if let Some(page) = self.pages.get_mut(&(at / 4096)) {
+            page.set((at % 4096) as usize, byte);
+        }
+    }
+
+    /// Whether a load, or a store, may not touch an address.
+    pub(crate) fn refuses(&self, writing: bool, at: u32) -> bool
+        ensures { result ≡ is_refused self.now writing at }
+    {
+        match self.mode(at / 4096) {
+            Mode::Unmapped => true,
+            Mode::Readable => writing,
+            Mode::Writable => false,
+        }
+    }
+}
