@@ -1,3 +1,4 @@
 pub mod Views
 pub mod Bytes
 pub mod Powers
+pub mod Ranges

@@ -1,6 +1,7 @@
 -- The kept entries as the memory that contracts see.
-use Rattle.std.proofs.Common.{◌≡◌, ℕ, zero, suc, ◌+◌, ◌/◌, ◌%◌, ◌^◌, ◌≤◌, slice_set, List, [], ◌∷◌, refl, ap, sym, ◌∙◌}
-use Rattle.std.specs.Prelude.{Bool, true, false, Option, Some, None, is_some, if◌then◌else◌}
+use Rattle.std.proofs.lemmas.Bool.{cases_lt}
+use Rattle.std.proofs.Common.{◌≡◌, ℕ, zero, suc, ◌+◌, ◌-◌, ◌/◌, ◌%◌, ◌^◌, ◌≤◌, arith, inl, inr, slice_set, List, [], ◌∷◌, refl, ap, sym, ◌∙◌}
+use Rattle.std.specs.Prelude.{◌≢◌, Bool, true, false, Option, Some, None, IsSome, is_some, if◌then◌else◌}
 use Rattle.std.specs.Ordering.{nat_cmp, eq_by_cmp}
 use Rattle.std.specs.Ordering.{is_eq}
 use Rattle.std.specs.declared.cmp.Ordering.{Ordering}
@@ -14,6 +15,7 @@ use Rattle.machine_state.specs.Access.{with_byte}
 use Rattle.page_memory.specs.declared.mode.Mode.{Mode}
 use Rattle.page_memory.specs.declared.mode.Mode.TheVariants.{Unmapped, Readable, Writable}
 use Rattle.page_memory.specs.Pages.{Kept, page_with, page_of, page_in, with_page, memory_of, HasAddresses}
+use Rattle.page_memory.specs.Mapping.{with_mode}
 
 pub get-with_page : (memory : model.Memory) (k : ℕ) (page : Option model.Page) (q : ℕ) →
     map.get (with_page memory k page) q ≡ (if eq_by_cmp nat_cmp q k then page else map.get memory q)
@@ -76,7 +78,7 @@ remove_nothing m k h =
     map.get-remove nat_cmp_total m k q
     ∙ same_if (eq_by_cmp nat_cmp q k) None (map.get m q) (λ e. sym (ap (map.get m) (same_number q k e) ∙ h)))
 
-none_of : (o : Option model.Page) → is_some o ≡ false → o ≡ None
+pub none_of : (o : Option model.Page) → is_some o ≡ false → o ≡ None
 none_of None e = refl
 none_of (Some p) e = cc
 
@@ -107,3 +109,47 @@ pub bytes_only : (es fs : List (ℕ × Kept)) (k : ℕ) (mode : Mode) (bs cs : L
     (n ≡ map.len (memory_of es)) × HasAddresses (memory_of es) → (n ≡ map.len (memory_of fs)) × HasAddresses (memory_of fs)
 bytes_only es fs k mode bs cs n got is known =
     rw is (known.0 ∙ len_stays (memory_of es) k (page_with mode bs) (page_with mode cs) got (alike mode bs cs), addresses_stay (memory_of es) k (page_with mode bs) (page_with mode cs) known.1 got (alike mode bs cs))
+
+pub no_kept : (o : Option Kept) → is_some o ≡ false → o ≡ None
+no_kept None e = refl
+no_kept (Some p) e = cc
+
+true_false : true ≡ false → ⊥
+true_false e = cc
+
+-- a page taken away leaves one less
+pub one_less : (m : model.Memory) (k : ℕ) → is_some (map.get m k) ≡ true → (1 ≤ map.len m) × (map.len m - 1 ≡ map.len (map.remove m k))
+one_less m k h =
+    let less : map.len (map.remove m k) ≡ map.len m - 1 = map.len-remove nat_cmp_total m k ∙ ap (λ (b : Bool). if b then map.len m - 1 else map.len m) h in
+    elim (cases_lt 0 (map.len m)) [
+      | inl some ↦ (omega arith, sym less)
+      | inr none ↦
+          let no : map.len m ≡ 0 = omega arith in
+          let out : is_some (map.get m k) ≡ false = rw (map.empty_of_len m no, map.get-empty {X = model.Page} nat_cmp k) refl in
+          absurd (true_false (sym h ∙ out))
+    ]
+
+pub addresses_without : (m : model.Memory) (k : ℕ) → HasAddresses m → HasAddresses (map.remove m k)
+addresses_without m k has q le = map.get-remove nat_cmp_total m k q ∙ none_if (eq_by_cmp nat_cmp q k) None (map.get m q) (has q le) (λ _. refl)
+
+-- a page that is there isn't nowhere
+pub nowhere : (m : model.Memory) (k : ℕ) → map.get m k ≡ None → IsSome (map.get m k) → ⊥
+nowhere m k h there = true_false (sym there ∙ ap is_some h)
+
+some_mode : (mode new : Mode) (bytes : List ℕ) → new ≢ Unmapped → is_some (page_with mode bytes) ≡ true → is_some (page_with new bytes) ≡ is_some (page_with mode bytes)
+some_mode mode Unmapped bytes h e = absurd (h refl)
+some_mode mode Readable bytes h e = sym e
+some_mode mode Writable bytes h e = sym e
+
+-- another mode for a page
+pub mode_put : (m : model.Memory) (k : ℕ) (mode new : Mode) (bytes : List ℕ) → map.get m k ≡ page_with mode bytes → IsSome (map.get m k) →
+    with_page m k (page_with new bytes) ≡ with_page m k (with_mode new (map.get m k))
+mode_put m k Unmapped new bytes h there = absurd (nowhere m k h there)
+mode_put m k Readable new bytes h there = rw h refl
+mode_put m k Writable new bytes h there = rw h refl
+
+pub mode_only : (es fs : List (ℕ × Kept)) (k : ℕ) (mode new : Mode) (bytes : List ℕ) (n : ℕ) → map.get (memory_of es) k ≡ page_with mode bytes → IsSome (map.get (memory_of es) k) → new ≢ Unmapped →
+    memory_of fs ≡ with_page (memory_of es) k (page_with new bytes) → (n ≡ map.len (memory_of es)) × HasAddresses (memory_of es) → (n ≡ map.len (memory_of fs)) × HasAddresses (memory_of fs)
+mode_only es fs k mode new bytes n got there allows is known =
+    let same : is_some (page_with new bytes) ≡ is_some (page_with mode bytes) = some_mode mode new bytes allows (sym (ap is_some got) ∙ there) in
+    rw is (known.0 ∙ len_stays (memory_of es) k (page_with mode bytes) (page_with new bytes) got same, addresses_stay (memory_of es) k (page_with mode bytes) (page_with new bytes) known.1 got same)

@@ -5,11 +5,13 @@
 #![tactic(auto)]
 
 mod access;
+mod mapping;
 mod memory;
 mod mode;
 mod page;
+mod spans;
 #[cfg(test)]
 mod tests;
 
 pub use memory::Memory;
-pub use mode::{Access, Mode};
+pub use mode::{Access, MapFault, Mode};

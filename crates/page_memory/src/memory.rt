@@ -1,8 +1,10 @@
-ghost use Rattle.std.specs.Prelude.{◌≡◌};
+ghost use Rattle.std.specs.Prelude.{◌≡◌, ◌≢◌, is_some, IsSome};
 ghost use Rattle.std.specs.FinMap as map;
 ghost use Rattle.machine_state.specs.Memory.{no_memory};
 ghost use Rattle.machine_state.specs.Access.{byte_of, with_byte, is_refused};
 ghost use Rattle.page_memory.specs.Answers.{mode_of};
+ghost use Rattle.page_memory.specs.Pages.{with_page};
+ghost use Rattle.page_memory.specs.Mapping.{with_mode};
 
 use crate::mode::Mode;
 use crate::page::Page;
@@ -13,9 +15,9 @@ use std::marker::Model;
 /// A memory of 2^32 bytes in pages of 4096. Page numbers are addresses divided by 4096, so below 2^20.
 #[derive(Drop)]
 pub struct Memory {
-    pages: BTreeMap<u32, Page>,
-    mapped: u32,
-    alloc: Global,
+    pub(crate) pages: BTreeMap<u32, Page>,
+    pub(crate) mapped: u32,
+    pub(crate) alloc: Global,
 }
 
 impl Model for Memory {
@@ -62,6 +64,38 @@ impl Memory {
         match self.pages.get(&page) {
             Some(found) => found.mode(),
             None => Mode::Unmapped,
+        }
+    }
+
+    /// Whether the memory has the page with a number.
+    pub(crate) fn has(&self, page: u32) -> bool
+        ensures { result ≡ is_some (map.get self.now page) }
+    {
+        match self.mode(page) {
+            Mode::Unmapped => false,
+            Mode::Readable => true,
+            Mode::Writable => true,
+        }
+    }
+
+    /// Gives a page another mode. It keeps its bytes.
+    pub(crate) fn set_mode(&mut self, page: u32, mode: Mode)
+        requires allows { mode ≢ Mode.Unmapped }
+        requires mapped { IsSome (map.get self.old page) }
+        ensures { self.new ≡ with_page self.old page (with_mode mode (map.get self.old page)) }
+    {
+        if let Some(found) = self.pages.get_mut(&page) {
+            found.set_mode(mode);
+        }
+    }
+
+    /// Takes a page out of the memory, if it is one of it.
+    pub(crate) fn remove(&mut self, page: u32)
+        ensures { self.new ≡ map.remove self.old page }
+    {
+        if self.has(page) {
+            self.pages.remove(&page);
+            self.mapped -= 1;
         }
     }
 

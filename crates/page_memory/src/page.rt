@@ -1,8 +1,11 @@
-ghost use Rattle.std.specs.Prelude.{◌≡◌, ◌<◌, slice_set};
+ghost use Rattle.std.specs.Prelude.{◌≡◌, ◌<◌, ◌+◌, slice_set, length, take, drop, replicate, nat_le, if◌then◌else◌, Some, None, IfOk};
 ghost use Rattle.machine_state.specs.Output.{byte_in};
+ghost use Rattle.std.specs.Option.{option_copied};
 ghost use Rattle.page_memory.specs.Pages.{page_of};
+ghost use Rattle.page_memory.specs.Ranges.{lent_in};
 
 use crate::mode::Mode;
+use std::alloc::{AllocError, Global};
 use std::marker::Model;
 
 /// What is kept for a page number: a mode and 4096 bytes.
@@ -24,6 +27,17 @@ impl Model for Page {
 }
 
 impl Page {
+    /// A page of zeros that isn't one of the memory.
+    pub(crate) fn unmapped(alloc: Global) -> Result<Page, AllocError>
+        ensures { IfOk result (λ p. p ≡ record { mode = Mode.Unmapped; bytes = replicate 4096 0 }) }
+    {
+        let bytes = vec![in alloc; 0; 4096]?;
+        Ok(Page {
+            mode: Mode::Unmapped,
+            bytes,
+        })
+    }
+
     /// The mode.
     pub(crate) fn mode(&self) -> Mode
         ensures { result ≡ self.now.mode }
@@ -43,11 +57,51 @@ impl Page {
         }
     }
 
+    /// The bytes from an offset on, where the page has so many and isn't unmapped.
+    pub(crate) fn lend(&self, offset: usize, len: usize) -> Option<&[u8]>
+        requires { offset < 4096 }
+        ensures { option_copied result ≡ lent_in (page_of self.now) offset len }
+    {
+        match self.mode {
+            Mode::Unmapped => None,
+            Mode::Readable => part(&self.bytes, offset, len),
+            Mode::Writable => part(&self.bytes, offset, len),
+        }
+    }
+
     /// Changes the byte at an offset.
     pub(crate) fn set(&mut self, offset: usize, byte: u8)
         requires { offset < 4096 }
         ensures { self.new ≡ record self.old { bytes = slice_set self.old.bytes offset byte } }
     {
         self.bytes[offset] = byte;
+    }
+
+    /// Gives the page another mode.
+    pub(crate) fn set_mode(&mut self, mode: Mode)
+        ensures { self.new ≡ record self.old { mode = mode } }
+    {
+        self.mode = mode;
+    }
+
+    /// Makes a zero page of it.
+    pub(crate) fn clear(&mut self, mode: Mode)
+        ensures { self.new ≡ record { mode = mode; bytes = replicate 4096 0 } }
+    {
+        self.mode = mode;
+        self.bytes.fill(0);
+    }
+}
+
+/// So many bytes of a page from an offset on, where it has so many.
+fn part(bytes: &[u8], offset: usize, len: usize) -> Option<&[u8]>
+    requires whole { length bytes.now ≡ 4096 }
+    requires within { offset < 4096 }
+    ensures { option_copied result ≡ (if nat_le (offset + len) 4096 then Some (take len (drop offset bytes.now)) else None) }
+{
+    if 4096 - offset < len {
+        None
+    } else {
+        Some(&bytes[offset..offset + len])
     }
 }

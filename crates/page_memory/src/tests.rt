@@ -1,17 +1,115 @@
+ghost use Rattle.std.specs.Prelude.{◌≡◌, ◌≢◌, ◌+◌, ◌<◌, ◌≤◌, ◌^◌, IfOk};
+ghost use Rattle.page_memory.specs.Mapping.{HasPages};
+
 use super::*;
+use std::alloc::Global;
 use std::test::*;
+
+/// A memory with one page.
+fn with_page(alloc: Global, number: u32, mode: Mode) -> Result<Memory, MapFault>
+    requires low { 16 ≤ number }
+    requires high { number < 2 ^ 20 }
+    requires allows { mode ≢ Mode.Unmapped }
+    ensures { IfOk result (λ memory. HasPages number (number + 1) memory) }
+{
+    let mut memory = Memory::new(alloc);
+    memory.map(number, 1, mode, 1)?;
+    Ok(memory)
+}
 
 #[test]
 fn no_page_may_be_accessed(rt: HostRuntime) -> Result<(), Fail> {
     let mut memory = Memory::new(rt.alloc());
     assert_eq!(rt; memory.frames(), 0);
     assert_eq!(rt; memory.mode(16), Mode::Unmapped);
-    assert_eq!(rt; memory.read64(0xfeff_0ffc), Err(Access::Fault(0xfeff_0000)));
     assert_eq!(rt; memory.read8(0xffff), Err(Access::Low));
-    assert_eq!(rt; memory.write64(0xffff_fffc, 0), Err(Access::Low));
     assert_eq!(rt;
         memory.write8(0xffff_ffff, 0),
         Err(Access::Fault(0xffff_f000))
     );
+    Ok(())
+}
+
+#[test]
+fn a_load_past_the_argument_faults_at_the_next_page(rt: HostRuntime) -> Result<(), Fail> {
+    let memory = with_page(rt.alloc(), 0xf_eff0, Mode::Readable)?;
+    assert_eq!(rt; memory.read64(0xfeff_0ffc), Err(Access::Fault(0xfeff_1000)));
+    assert_eq!(rt; memory.read64(0xfeff_0ff8), Ok(0));
+    assert_eq!(rt; memory.read32(0xfeff_0ffc), Ok(0));
+    Ok(())
+}
+
+#[test]
+fn a_store_past_the_stack_changes_nothing(rt: HostRuntime) -> Result<(), Fail> {
+    let mut memory = with_page(rt.alloc(), 0xf_efdf, Mode::Writable)?;
+    assert_eq!(rt; memory.write64(0xfefd_fff8, 0x0807_0605_0403_0201), Ok(()));
+    assert_eq!(rt;
+        memory.write64(0xfefd_fffc, 0),
+        Err(Access::Fault(0xfefe_0000))
+    );
+    assert_eq!(rt; memory.read64(0xfefd_fff8), Ok(0x0807_0605_0403_0201));
+    assert_eq!(rt; memory.read16(0xfefd_fffc), Ok(0x0605));
+    Ok(())
+}
+
+#[test]
+fn a_load_past_the_end_begins_again_at_zero(rt: HostRuntime) -> Result<(), Fail> {
+    let memory = with_page(rt.alloc(), 0xf_ffff, Mode::Writable)?;
+    assert_eq!(rt; memory.read64(0xffff_fffc), Err(Access::Low));
+    assert_eq!(rt; memory.read32(0xffff_fffc), Ok(0));
+    Ok(())
+}
+
+#[test]
+fn a_store_crosses_pages(rt: HostRuntime) -> Result<(), Fail> {
+    let mut memory = Memory::new(rt.alloc());
+    assert_eq!(rt; memory.map(16, 2, Mode::Writable, 2), Ok(()));
+    assert_eq!(rt; memory.write32(0x1_0ffe, 0x0403_0201), Ok(()));
+    assert_eq!(rt; memory.read8(0x1_0fff), Ok(2));
+    assert_eq!(rt; memory.read8(0x1_1000), Ok(3));
+    Ok(())
+}
+
+#[test]
+fn a_readable_page_is_not_written(rt: HostRuntime) -> Result<(), Fail> {
+    let mut memory = with_page(rt.alloc(), 16, Mode::Writable)?;
+    memory.protect(16, 1, Mode::Readable);
+    assert_eq!(rt; memory.mode(16), Mode::Readable);
+    assert_eq!(rt; memory.write16(0x1_0000, 1), Err(Access::Fault(0x1_0000)));
+    assert_eq!(rt; memory.read16(0x1_0000), Ok(0));
+    Ok(())
+}
+
+#[test]
+fn pages_past_the_limit_are_not_mapped(rt: HostRuntime) -> Result<(), Fail> {
+    let mut memory = with_page(rt.alloc(), 16, Mode::Writable)?;
+    assert_eq!(rt; memory.write8(0x1_0000, 7), Ok(()));
+    assert_eq!(rt; memory.map(16, 3, Mode::Readable, 2), Err(MapFault::Full));
+    assert_eq!(rt; memory.mode(16), Mode::Writable);
+    assert_eq!(rt; memory.read8(0x1_0000), Ok(7));
+    assert_eq!(rt; memory.frames(), 1);
+    Ok(())
+}
+
+#[test]
+fn pages_come_and_go(rt: HostRuntime) -> Result<(), Fail> {
+    let mut memory = with_page(rt.alloc(), 16, Mode::Writable)?;
+    assert_eq!(rt; memory.write8(0x1_0000, 7), Ok(()));
+    assert_eq!(rt; memory.map(16, 2, Mode::Readable, 2), Ok(()));
+    assert_eq!(rt; memory.read8(0x1_0000), Ok(0));
+    assert_eq!(rt; memory.frames(), 2);
+    memory.unmap(17, 5);
+    assert_eq!(rt; memory.frames(), 1);
+    assert_eq!(rt; memory.mode(17), Mode::Unmapped);
+    Ok(())
+}
+
+#[test]
+fn a_range_within_a_page_is_lent(rt: HostRuntime) -> Result<(), Fail> {
+    let memory = with_page(rt.alloc(), 16, Mode::Readable)?;
+    assert_eq!(rt; memory.lend(0x1_0ffe, 2), Some(&[0, 0][..]));
+    assert_eq!(rt; memory.lend(0x1_0ffe, 3), None);
+    assert_eq!(rt; memory.lend(0, 1), None);
+    assert_eq!(rt; memory.lend(0, 0), Some(&[][..]));
     Ok(())
 }
