@@ -1,5 +1,4 @@
 pub mod Memory
-pub mod Access
 pub mod State
 pub mod Ends
 pub mod Start

@@ -1,14 +1,12 @@
 -- A byte of a page changed.
-use Rattle.std.proofs.Common.{◌≡◌, ℕ, zero, suc, ◌+◌, ◌/◌, ◌%◌, ◌^◌, ◌≤◌, slice_set, List, [], ◌∷◌, refl, ap, sym, ◌∙◌}
-use Rattle.std.specs.Prelude.{Bool, true, false, Option, Some, None, is_some, if◌then◌else◌}
-use Rattle.std.specs.Ordering.{nat_cmp, eq_by_cmp}
-use Rattle.std.specs.Cmp.{nat_cmp_total}
+use Rattle.std.proofs.Common.{◌≡◌, ℕ, ◌/◌, ◌%◌, slice_set, List, refl}
+use Rattle.std.specs.Prelude.{None}
 use Rattle.std.specs.FinMap as map
 use Rattle.machine_state.specs.Memory as model
-use Rattle.machine_state.specs.Access.{with_byte, with_byte_in}
+use Rattle.page_memory.specs.Access.{with_byte}
 use Rattle.page_memory.specs.declared.mode.Mode.{Mode}
 use Rattle.page_memory.specs.declared.mode.Mode.TheVariants.{Unmapped, Readable, Writable}
-use Rattle.page_memory.specs.Pages.{page_with, with_page, HasAddresses}
+use Rattle.page_memory.specs.Pages.{page_with, with_page}
 use Rattle.page_memory.proofs.Views.{remove_nothing}
 
 pub byte_put : (m : model.Memory) (at b : ℕ) (mode : Mode) (bytes : List ℕ) → map.get m (at / 4096) ≡ page_with mode bytes →

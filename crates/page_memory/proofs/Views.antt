@@ -1,6 +1,6 @@
 -- The kept entries as the memory that contracts see.
 use Rattle.std.proofs.lemmas.Bool.{cases_lt}
-use Rattle.std.proofs.Common.{◌≡◌, ℕ, zero, suc, ◌+◌, ◌-◌, ◌/◌, ◌%◌, ◌^◌, ◌≤◌, arith, inl, inr, slice_set, List, [], ◌∷◌, refl, ap, sym, ◌∙◌}
+use Rattle.std.proofs.Common.{◌≡◌, ℕ, ◌+◌, ◌-◌, ◌≤◌, arith, inl, inr, List, [], ◌∷◌, refl, ap, sym, ◌∙◌}
 use Rattle.std.specs.Prelude.{◌≢◌, Bool, true, false, Option, Some, None, IsSome, is_some, if◌then◌else◌}
 use Rattle.std.specs.Ordering.{nat_cmp, eq_by_cmp}
 use Rattle.std.specs.Ordering.{is_eq}
@@ -11,7 +11,6 @@ use Rattle.std.specs.FinMap as map
 use Rattle.std.specs.BTreeMap.{is_at}
 use Rattle.std.specs.Map.{lookup}
 use Rattle.machine_state.specs.Memory as model
-use Rattle.machine_state.specs.Access.{with_byte}
 use Rattle.page_memory.specs.declared.mode.Mode.{Mode}
 use Rattle.page_memory.specs.declared.mode.Mode.TheVariants.{Unmapped, Readable, Writable}
 use Rattle.page_memory.specs.Pages.{Kept, page_with, page_of, page_in, with_page, memory_of, HasAddresses}

@@ -1,6 +1,6 @@
 ghost use Rattle.std.specs.Prelude.{◌≡◌, ◌<◌, ◌≤◌, ◌^◌, false, true};
 ghost use Rattle.numbers.specs.Bytes.{little, number_of};
-ghost use Rattle.machine_state.specs.Access.{least_refused, access_of, touched, with_bytes, load, store, store_answer};
+ghost use Rattle.page_memory.specs.Access.{least_refused, access_of, touched, with_bytes, load, store, store_answer};
 ghost use Rattle.page_memory.specs.Answers.{refusal, told};
 
 use crate::memory::Memory;
@@ -94,7 +94,7 @@ impl Memory {
     }
 
     /// The least address of an access that it may not touch.
-    #[tactic(auto, unfolding(machine_state::specs::Access::least_refused))]
+    #[tactic(auto, unfolding(crate::specs::Access::least_refused))]
     fn least_refused(&self, writing: bool, at: u32, len: u8) -> Option<u32>
         ensures { result ≡ least_refused self.now writing at len }
     {
@@ -112,7 +112,7 @@ impl Memory {
     }
 
     /// The number of the bytes from an address on.
-    #[tactic(auto, unfolding(machine_state::specs::Access::touched), using(crate::proofs::Powers::powers))]
+    #[tactic(auto, unfolding(crate::specs::Access::touched), using(crate::proofs::Powers::powers))]
     fn number(&self, at: u32, len: u8) -> u64
         requires { len ≤ 8 }
         ensures value { result ≡ number_of (touched self.now at len) }
@@ -126,7 +126,7 @@ impl Memory {
     }
 
     /// Changes the bytes from an address on to the low bytes of a value.
-    #[tactic(auto, unfolding(machine_state::specs::Access::with_bytes))]
+    #[tactic(auto, unfolding(crate::specs::Access::with_bytes))]
     fn put_number(&mut self, at: u32, len: u8, value: u64)
         ensures { self.new ≡ with_bytes self.old at (little len value) }
     {

@@ -1,7 +1,7 @@
 ghost use Rattle.std.specs.Prelude.{◌≡◌, ◌≢◌, is_some, IsSome};
 ghost use Rattle.std.specs.FinMap as map;
 ghost use Rattle.machine_state.specs.Memory.{no_memory};
-ghost use Rattle.machine_state.specs.Access.{byte_of, with_byte, is_refused};
+ghost use Rattle.page_memory.specs.Access.{byte_of, with_byte, is_refused};
 ghost use Rattle.page_memory.specs.Answers.{mode_of};
 ghost use Rattle.page_memory.specs.Pages.{with_page};
 ghost use Rattle.page_memory.specs.Mapping.{with_mode};

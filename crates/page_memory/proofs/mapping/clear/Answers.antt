@@ -1,6 +1,5 @@
-use Rattle.std.proofs.Common.{◌≡◌, sym, refl, ap, ◌∙◌, replicate}
-use Rattle.std.specs.Prelude.{Some, None}
-use Rattle.page_memory.specs.Pages.{memory_of, page_in, page_with, with_page}
+use Rattle.std.proofs.Common.{refl, ◌∙◌}
+use Rattle.std.specs.Prelude.{Some}
 use Rattle.page_memory.proofs.Views.{changed}
 use Rattle.page_memory.proofs.mapping.clear.Goals as goal
 

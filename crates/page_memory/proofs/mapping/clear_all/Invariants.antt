@@ -1,4 +1,4 @@
-use Rattle.std.proofs.Common.{◌≡◌, ℕ, ◌<◌, ◌≤◌, replicate}
+use Rattle.std.proofs.Common.{ℕ, ◌<◌, ◌≤◌, replicate}
 use Rattle.std.specs.Ordering.{nat_cmp}
 use Rattle.std.specs.BTreeMap.{ContainsKey}
 use Rattle.page_memory.specs.Pages.{memory_of, page_with}

@@ -1,7 +1,6 @@
-use Rattle.std.proofs.Common.{◌≡◌, sym, refl, ap, ◌∙◌}
-use Rattle.std.specs.Prelude.{Some, None}
-use Rattle.std.specs.FinMap as map
-use Rattle.page_memory.specs.Pages.{memory_of, page_in, with_page}
+use Rattle.std.proofs.Common.{sym, ap, ◌∙◌}
+use Rattle.std.specs.Prelude.{Some}
+use Rattle.page_memory.specs.Pages.{memory_of, page_in}
 use Rattle.page_memory.proofs.Views.{viewed, changed, remove_nothing, no_kept}
 use Rattle.page_memory.proofs.mapping.reserve.Goals as goal
 

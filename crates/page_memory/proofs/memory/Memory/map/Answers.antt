@@ -1,5 +1,5 @@
-use Rattle.std.proofs.Common.{◌≡◌, ℕ, ◌+◌, ◌-◌, ◌<◌, ◌≤◌, refl, ap, sym, subst, ◌∙◌, arith, replicate}
-use Rattle.std.specs.Prelude.{◌≢◌, Option}
+use Rattle.std.proofs.Common.{◌≡◌, ℕ, ◌+◌, ◌-◌, refl, ap, sym, subst, ◌∙◌, arith, replicate}
+use Rattle.std.specs.Prelude.{◌≢◌}
 use Rattle.std.specs.FinMap as map
 use Rattle.machine_state.specs.Memory as model
 use Rattle.page_memory.specs.declared.mode.Mode.{Mode}

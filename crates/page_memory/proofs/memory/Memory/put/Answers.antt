@@ -3,7 +3,7 @@ use Rattle.std.specs.Prelude.{Some, None}
 use Rattle.std.specs.Option.{option_copied_mut}
 use Rattle.std.specs.FinMap as map
 use Rattle.machine_state.specs.Memory as model
-use Rattle.page_memory.specs.Pages.{memory_of, page_in, page_with, with_page}
+use Rattle.page_memory.specs.Pages.{memory_of, page_in}
 use Rattle.page_memory.proofs.Views.{viewed, changed, bytes_only}
 use Rattle.page_memory.proofs.Bytes.{byte_put, byte_put_nowhere}
 use Rattle.page_memory.proofs.memory.Memory.put.Goals as goal

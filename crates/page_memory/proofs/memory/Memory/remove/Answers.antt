@@ -1,7 +1,6 @@
-use Rattle.std.proofs.Common.{◌≡◌, sym, refl, ap, ◌∙◌, arith}
-use Rattle.std.specs.Prelude.{None, true, false, is_some}
+use Rattle.std.proofs.Common.{◌≡◌, sym, ◌∙◌}
+use Rattle.std.specs.Prelude.{None, true, is_some}
 use Rattle.std.specs.FinMap as map
-use Rattle.machine_state.specs.Memory as model
 use Rattle.page_memory.specs.Pages.{memory_of}
 use Rattle.page_memory.proofs.Views.{changed, remove_nothing, one_less, addresses_without, none_of}
 use Rattle.page_memory.proofs.memory.Memory.remove.Goals as goal
