@@ -50,7 +50,7 @@ RunComesTo-unread entry gas blob (answers.Refused fault) old new fails others =
     (HasFault-long (run_fault_in entry) old.files blob fault fails.0 fails.1, unchanged old new others fails.2)
 RunComesTo-unread entry gas blob answers.Usage old new fails others = absurd fails
 RunComesTo-unread entry gas blob answers.FileFault old new fails others =
-    inl (record { cause = fails; others = others })
+    inl (record { later = fails.0; cause = fails.1; others = others })
 RunComesTo-unread entry gas blob answers.Memory old new fails others = unchanged old new others fails
 
 -- a command that puts a text, whose blob wasn't read
@@ -66,5 +66,5 @@ TextComesTo-unread fault_in text_of blob (answers.Refused fault) old new fails o
     (HasFault-long fault_in old.files blob fault fails.0 fails.1, unchanged old new others fails.2)
 TextComesTo-unread fault_in text_of blob answers.Usage old new fails others = absurd fails
 TextComesTo-unread fault_in text_of blob answers.FileFault old new fails others =
-    inl (record { cause = fails; others = others })
+    inl (record { later = fails.0; cause = fails.1; others = others })
 TextComesTo-unread fault_in text_of blob answers.Memory old new fails others = unchanged old new others fails

@@ -1,5 +1,5 @@
 -- What a command comes to, and how that is told.
-use Rattle.std.specs.Prelude.{◌≡◌, ◌⊎◌, ℕ, List, [], Option, Some, None, Ok}
+use Rattle.std.specs.Prelude.{◌≡◌, ◌≤◌, ◌⊎◌, ℕ, List, [], Option, Some, None, Ok}
 use Rattle.std.specs.Io.KnownBytes.{Appends}
 use Rattle.outside.specs.Outside.{Files, Rose, Missing, AppendsFront, KeepsOthers, AnswersWrite}
 use Rattle.elf_objects.specs.declared.fault.Fault.{Fault}
@@ -62,6 +62,7 @@ pub record HasLinked (output object : List ℕ) (old new : World) : Type 0 where
 
 -- The name of the file to read is missing or its read failed; all else is as before.
 pub record FailedRead (name : List ℕ) (old new : World) : Type 0 where
+  pub later : old.reads ≤ new.reads
   pub cause : Rose old.reads new.reads ⊎ Missing old.files name
   pub others : new ≡ record old { reads = new.reads }
 

@@ -21,7 +21,7 @@ pub record HoldsTooLarge (files : Option Files) (name : List ℕ) : Type 0 where
 
 -- how a read of a blob that gave no bytes is answered, with the counts of failed reads before and after it
 abbrev pub FailsToRead : Option Files → List ℕ → ℕ → ℕ → Answer → Type 0
-FailsToRead files name before now answers.FileFault = Rose before now ⊎ Missing files name
+FailsToRead files name before now answers.FileFault = (before ≤ now) × (Rose before now ⊎ Missing files name)
 FailsToRead files name before now (answers.Refused fault) =
     (fault ≡ too_large) × HoldsTooLarge files name × (now ≡ before)
 FailsToRead files name before now answers.Memory = now ≡ before

@@ -38,6 +38,9 @@ fn what_is_spelled_is_fetched_up_to_the_next_mark(rt: HostRuntime) -> Result<(),
         assert_eq!(rt; fetched.next, next, "at {at}");
         assert_eq!(rt; fetched.instr == load_five(), marked, "at {at}");
     }
+    for (at, nearest) in [(0, None), (3, Some(0)), (5, Some(3))] {
+        assert_eq!(rt; code.mark_before(at), nearest, "before {at}");
+    }
     Ok(())
 }
 

@@ -1,7 +1,8 @@
 //! The PVM: what instructions do, one step of the machine, and its run under gas.
 //!
-//! The machine is that of the JAM Gray Paper 0.7.0, appendix A. `specs/Effect.antt` has what instructions do, so far those
-//! of the opcodes that a link writes; `specs/Stepped.antt` has what one step leaves and answers.
+//! The machine is that of the JAM Gray Paper 0.7.0, appendix A. `specs/Operations.antt` has the operation of each opcode
+//! and `specs/Effect.antt` what it does, so far but for accesses to memory, host calls and `sbrk`, which panic;
+//! `specs/Stepped.antt` has what one step leaves and answers.
 #![tactic(auto)]
 
 mod answers;
