@@ -14,7 +14,6 @@ llvm-objdump; where there is none its part is left out.
 Times of one run mean something beside each other, as machines differ. The status is 0 where no time is over its bar,
 else 1.
 """
-import argparse
 import os
 import shutil
 import subprocess
@@ -22,9 +21,9 @@ import sys
 import tempfile
 import time
 
-HERE = os.path.dirname(os.path.abspath(__file__))
-ROOT = os.path.dirname(HERE)
 sys.dont_write_bytecode = True
+from common import ROOT, asked, judged
+
 sys.path.insert(0, os.path.join(ROOT, "examples", "five"))
 from make import object_of
 
@@ -96,23 +95,11 @@ def measure(program, objdump, rounds, folder):
     return {what: min(times) for what, times in took.items() if times}
 
 
-def judged(what, value, bar):
-    ok = value <= bar
-    print("%s %.3f, bar %g: %s" % (what, value, bar, "ok" if ok else "over the bar"))
-    return ok
-
-
 def main():
-    a = argparse.ArgumentParser()
-    a.add_argument("program", nargs="?", default=os.path.join(ROOT, "crates", "polkatool", "out", "polkatool"))
-    a.add_argument("--rounds", type=int, default=3)
-    o = a.parse_args()
-    program = os.path.abspath(o.program)
-    if not os.access(program, os.X_OK):
-        sys.exit("%s isn't there; the script polkatool at the top of the repository builds it" % program)
+    program, rounds = asked(3)
     objdump = shutil.which("llvm-objdump-19") or shutil.which("llvm-objdump")
     with tempfile.TemporaryDirectory() as folder:
-        took = measure(program, objdump, o.rounds, folder)
+        took = measure(program, objdump, rounds, folder)
     for what, least in took.items():
         print("%-12s %7.3f s for %d instructions" % (what, least, CODE_LEN // 3 + 1))
     if not objdump:

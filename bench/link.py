@@ -14,7 +14,6 @@ object and container together. Each answer is compared with what it has to be.
 Times and ratios of one run mean something, as machines differ. The status is 0 where both last lines say ok, else 1. It
 runs on Linux alone.
 """
-import argparse
 import ctypes
 import os
 import subprocess
@@ -22,9 +21,9 @@ import sys
 import tempfile
 import time
 
-HERE = os.path.dirname(os.path.abspath(__file__))
-ROOT = os.path.dirname(HERE)
 sys.dont_write_bytecode = True
+from common import ROOT, asked, judged
+
 sys.path.insert(0, os.path.join(ROOT, "examples", "five"))
 from make import object_of
 
@@ -103,23 +102,11 @@ def measure(program, rounds, folder):
         yield count, a_word, size, memory / size
 
 
-def judged(what, value, bar):
-    ok = value <= bar
-    print("%s %.2f, bar %g: %s" % (what, value, bar, "ok" if ok else "over the bar"))
-    return ok
-
-
 def main():
-    a = argparse.ArgumentParser()
-    a.add_argument("program", nargs="?", default=os.path.join(ROOT, "crates", "polkatool", "out", "polkatool"))
-    a.add_argument("--rounds", type=int, default=5)
-    o = a.parse_args()
-    program = os.path.abspath(o.program)
-    if not os.access(program, os.X_OK):
-        sys.exit("%s isn't there; the script polkatool at the top of the repository builds it" % program)
+    program, rounds = asked(5)
     with tempfile.TemporaryDirectory() as folder:
         found = []
-        for count, a_word, size, a_byte in measure(program, o.rounds, folder):
+        for count, a_word, size, a_byte in measure(program, rounds, folder):
             print("%8d words  %9d bytes  %8.2f ns a word  %6.2f bytes of memory a byte" % (count, size, a_word * 1e9, a_byte), flush=True)
             found.append((a_word, a_byte))
     shortest, longest = found[0][0], found[-1][0]
