@@ -113,3 +113,10 @@ fn a_range_within_a_page_is_lent(rt: HostRuntime) -> Result<(), Fail> {
     assert_eq!(rt; memory.lend(0, 0), Some(&[][..]));
     Ok(())
 }
+
+#[test]
+fn the_least_address_that_may_not_be_read_is_told(rt: HostRuntime) {
+    let memory = Memory::new(rt.alloc());
+    assert_eq!(rt; memory.refused(0x1_0005, 9, false), Some(0x1_0005));
+    assert_eq!(rt; memory.refused(0x1_0005, 0, true), None);
+}
