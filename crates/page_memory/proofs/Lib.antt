@@ -1,4 +1,6 @@
 pub mod Views
-pub mod Bytes
 pub mod Powers
 pub mod Ranges
+pub mod Within
+pub mod Parts
+pub mod Steps

@@ -1,6 +1,6 @@
 -- Loads and stores (JAM Gray Paper 0.7.0, appendix A, the memory of the PVM). An access of so many bytes at an address
 -- touches the addresses from it on, modulo 2^32.
-use Rattle.std.specs.Prelude.{ℕ, zero, suc, ◌+◌, ◌*◌, ◌/◌, ◌%◌, ◌^◌, min, List, [], ◌∷◌, Bool, true, false, nat_lt, not, if◌then◌else◌, slice_set, Option, Some, None, Result, Ok, Err}
+use Rattle.std.specs.Prelude.{ℕ, zero, suc, ◌+◌, ◌*◌, ◌/◌, ◌%◌, ◌^◌, min, List, [], ◌∷◌, length, Bool, true, false, nat_lt, not, if◌then◌else◌, slice_set, Option, Some, None, Result, Ok, Err}
 use Rattle.std.specs.FinMap as map
 use Rattle.numbers.specs.Bytes.{little, number_of}
 use Rattle.machine_state.specs.Memory.{Mode, Readable, Writable, Page, Memory, page_size}
@@ -90,3 +90,19 @@ stored memory at bytes None = with_bytes memory at bytes
 -- the memory after a store of the low bytes of a number: these are the touched bytes, and it stays where the store is refused
 abbrev pub store : Memory → ℕ → ℕ → ℕ → Memory
 store memory at len value = stored memory at (little len value) (least_refused memory true at len)
+
+-- the memory after a store of bytes: these are the touched bytes, and it stays where the store is refused
+abbrev pub copy_in : Memory → ℕ → List ℕ → Memory
+copy_in memory at bytes = stored memory at bytes (least_refused memory true at (length bytes))
+
+-- what a load of bytes answers
+abbrev pub load_answer : Memory → ℕ → ℕ → Result Unit Access
+load_answer memory at len = answered (least_refused memory false at len)
+
+abbrev pub copied : Memory → ℕ → List ℕ → Option ℕ → List ℕ
+copied memory at bytes (Some least) = bytes
+copied memory at bytes None = touched memory at (length bytes)
+
+-- the bytes after a load into their place: these are as many touched bytes, and they stay where the load is refused
+abbrev pub copy_out : Memory → ℕ → List ℕ → List ℕ
+copy_out memory at bytes = copied memory at bytes (least_refused memory false at (length bytes))

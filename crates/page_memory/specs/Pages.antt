@@ -1,7 +1,8 @@
 -- How the pages of a memory are kept: an entry is a page of the memory only if it has a mode that allows something.
-use Rattle.std.specs.Prelude.{◌≡◌, ℕ, ◌≤◌, ◌^◌, List, [], ◌∷◌, Option, Some, None}
+use Rattle.std.specs.Prelude.{◌≡◌, ℕ, ◌+◌, ◌≤◌, ◌^◌, List, [], ◌∷◌, Bool, true, ◌&&◌, nat_le, slice_set, Option, Some, None}
 use Rattle.std.specs.FinMap as map
 use Rattle.machine_state.specs.Memory as model
+use Rattle.page_memory.specs.Access.{page_allows}
 use Rattle.page_memory.specs.declared.mode.Mode.{Mode}
 use Rattle.page_memory.specs.declared.mode.Mode.TheVariants.{Unmapped, Readable, Writable}
 
@@ -36,3 +37,12 @@ memory_of (entry ∷ entries) = with_page (memory_of entries) entry.0 (page_of e
 -- no page has a number of 2^20 or more
 abbrev pub HasAddresses : model.Memory → Type 0
 HasAddresses memory = (number : ℕ) → 2 ^ 20 ≤ number → map.get memory number ≡ None
+
+-- the bytes of a page with others from an offset on
+unfoldable pub with_bytes_from : List ℕ → ℕ → List ℕ → List ℕ
+with_bytes_from page offset [] = page
+with_bytes_from page offset (byte ∷ bytes) = with_bytes_from (slice_set page offset byte) (offset + 1) bytes
+
+-- a page takes so many bytes from an offset on: it may be written, and they end within it
+abbrev pub takes : Option model.Page → ℕ → ℕ → Bool
+takes page offset len = page_allows true page && nat_le (offset + len) model.page_size

@@ -1,6 +1,6 @@
 ghost use Rattle.std.specs.Prelude.{◌≡◌, ◌<◌, ◌≤◌, ◌^◌, false, true};
-ghost use Rattle.numbers.specs.Bytes.{little, number_of};
-ghost use Rattle.page_memory.specs.Access.{least_refused, access_of, touched, with_bytes, load, store, store_answer};
+ghost use Rattle.numbers.specs.Bytes.{number_of};
+ghost use Rattle.page_memory.specs.Access.{access_of, touched, load, store, store_answer};
 ghost use Rattle.page_memory.specs.Answers.{refusal, told};
 
 use crate::memory::Memory;
@@ -8,34 +8,48 @@ use crate::mode::Access;
 
 /// Loads and stores. Those of 2, 4 and 8 bytes may stand at any address, and addresses are taken modulo 2^32. A load gives
 /// the little-endian number of its bytes, and a store writes the low bytes of its value. Where an address that is touched
-/// lacks the mode, the least of them is told and nothing changes.
+/// lacks the mode, the least of them is told and nothing changes. Within one page an access looks for the page once.
 impl Memory {
     /// The byte at an address.
     pub fn read8(&self, at: u32) -> Result<u64, Access>
         ensures { result ≡ told (load self.now at 1) }
     {
-        self.load(at, 1)
+        match self.view(at, 1) {
+            Some([a]) => Ok(u64::from(*a)),
+            _ => self.load(at, 1),
+        }
     }
 
     /// The number of two bytes.
     pub fn read16(&self, at: u32) -> Result<u64, Access>
         ensures { result ≡ told (load self.now at 2) }
     {
-        self.load(at, 2)
+        match self.view(at, 2) {
+            Some([a, b]) => Ok(u64::from(u16::from_le_bytes([*a, *b]))),
+            _ => self.load(at, 2),
+        }
     }
 
     /// The number of four bytes.
     pub fn read32(&self, at: u32) -> Result<u64, Access>
         ensures { result ≡ told (load self.now at 4) }
     {
-        self.load(at, 4)
+        match self.view(at, 4) {
+            Some([a, b, c, d]) => Ok(u64::from(u32::from_le_bytes([*a, *b, *c, *d]))),
+            _ => self.load(at, 4),
+        }
     }
 
     /// The number of eight bytes.
     pub fn read64(&self, at: u32) -> Result<u64, Access>
         ensures { result ≡ told (load self.now at 8) }
     {
-        self.load(at, 8)
+        match self.view(at, 8) {
+            Some([a, b, c, d, e, f, g, h]) => Ok(u64::from_le_bytes([
+                *a, *b, *c, *d, *e, *f, *g, *h,
+            ])),
+            _ => self.load(at, 8),
+        }
     }
 
     /// Stores the low byte of a value.
@@ -43,7 +57,7 @@ impl Memory {
         ensures answer { result ≡ told (store_answer self.old at 1) }
         ensures memory { self.new ≡ store self.old at 1 value }
     {
-        self.store(at, 1, value)
+        self.copy_in(at, &value.to_le_bytes()[..1])
     }
 
     /// Stores the two low bytes of a value.
@@ -51,7 +65,7 @@ impl Memory {
         ensures answer { result ≡ told (store_answer self.old at 2) }
         ensures memory { self.new ≡ store self.old at 2 value }
     {
-        self.store(at, 2, value)
+        self.copy_in(at, &value.to_le_bytes()[..2])
     }
 
     /// Stores the four low bytes of a value.
@@ -59,7 +73,7 @@ impl Memory {
         ensures answer { result ≡ told (store_answer self.old at 4) }
         ensures memory { self.new ≡ store self.old at 4 value }
     {
-        self.store(at, 4, value)
+        self.copy_in(at, &value.to_le_bytes()[..4])
     }
 
     /// Stores the eight bytes of a value.
@@ -67,47 +81,17 @@ impl Memory {
         ensures answer { result ≡ told (store_answer self.old at 8) }
         ensures memory { self.new ≡ store self.old at 8 value }
     {
-        self.store(at, 8, value)
+        self.copy_in(at, &value.to_le_bytes())
     }
 
+    /// A load of any bytes, also of those that stand on two pages.
     fn load(&self, at: u32, len: u8) -> Result<u64, Access>
         requires { len ≤ 8 }
         ensures { result ≡ told (load self.now at len) }
     {
-        match self.least_refused(false, at, len) {
+        match self.least_refused(false, at, u32::from(len)) {
             Some(least) => Err(access_of(least)),
             None => Ok(self.number(at, len)),
-        }
-    }
-
-    fn store(&mut self, at: u32, len: u8, value: u64) -> Result<(), Access>
-        ensures answer { result ≡ told (store_answer self.old at len) }
-        ensures memory { self.new ≡ store self.old at len value }
-    {
-        match self.least_refused(true, at, len) {
-            Some(least) => Err(access_of(least)),
-            None => {
-                self.put_number(at, len, value);
-                Ok(())
-            }
-        }
-    }
-
-    /// The least address of an access that it may not touch.
-    #[tactic(auto, unfolding(crate::specs::Access::least_refused))]
-    fn least_refused(&self, writing: bool, at: u32, len: u8) -> Option<u32>
-        ensures { result ≡ least_refused self.now writing at len }
-    {
-        if len == 0 {
-            return None;
-        }
-        let rest = self.least_refused(writing, at.wrapping_add(1), len - 1);
-        if !self.refuses(writing, at) {
-            return rest;
-        }
-        match rest {
-            Some(least) => Some(at.min(least)),
-            None => Some(at),
         }
     }
 
@@ -124,21 +108,10 @@ impl Memory {
             u64::from(self.byte(at)) + 256 * self.number(at.wrapping_add(1), len - 1)
         }
     }
-
-    /// Changes the bytes from an address on to the low bytes of a value.
-    #[tactic(auto, unfolding(crate::specs::Access::with_bytes))]
-    fn put_number(&mut self, at: u32, len: u8, value: u64)
-        ensures { self.new ≡ with_bytes self.old at (little len value) }
-    {
-        if 0 < len {
-            self.put(at, (value % 256) as u8);
-            self.put_number(at.wrapping_add(1), len - 1, value / 256);
-        }
-    }
 }
 
 /// The refusal of an access by the least refused address.
-fn access_of(least: u32) -> Access
+pub(crate) fn access_of(least: u32) -> Access
     ensures { result ≡ refusal (access_of least) }
 {
     if least < 0x1_0000 {

@@ -5,6 +5,7 @@
 #![tactic(auto)]
 
 mod access;
+mod copies;
 mod mapping;
 mod memory;
 mod mode;

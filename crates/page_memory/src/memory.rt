@@ -1,9 +1,10 @@
-ghost use Rattle.std.specs.Prelude.{◌≡◌, ◌≢◌, is_some, IsSome};
+ghost use Rattle.std.specs.Prelude.{◌≡◌, ◌≢◌, ◌%◌, length, if◌then◌else◌, is_some, IsSome};
 ghost use Rattle.std.specs.FinMap as map;
 ghost use Rattle.machine_state.specs.Memory.{no_memory};
-ghost use Rattle.page_memory.specs.Access.{byte_of, with_byte, is_refused};
+ghost use Rattle.machine_state.specs.Output.{page_at};
+ghost use Rattle.page_memory.specs.Access.{byte_of, with_bytes, is_refused};
 ghost use Rattle.page_memory.specs.Answers.{mode_of};
-ghost use Rattle.page_memory.specs.Pages.{with_page};
+ghost use Rattle.page_memory.specs.Pages.{with_page, takes};
 ghost use Rattle.page_memory.specs.Mapping.{with_mode};
 
 use crate::mode::Mode;
@@ -110,12 +111,15 @@ impl Memory {
         }
     }
 
-    /// Changes the byte at an address, and nothing where its page isn't in the memory.
-    pub(crate) fn put(&mut self, at: u32, byte: u8)
-        ensures { self.new ≡ with_byte self.old at byte }
+    /// Stores bytes from an address on, where they lie within one page and it may be written, and tells whether they do.
+    #[inline]
+    pub(crate) fn put(&mut self, at: u32, bytes: &[u8]) -> bool
+        ensures answer { result ≡ takes (page_at self.old at) (at % 4096) (length bytes.now) }
+        ensures memory { self.new ≡ (if result then with_bytes self.old at bytes.now else self.old) }
     {
-        if let Some(page) = self.pages.get_mut(&(at / 4096)) {
-            page.set((at % 4096) as usize, byte);
+        match self.pages.get_mut(&(at / 4096)) {
+            Some(page) => page.put((at % 4096) as usize, bytes),
+            None => false,
         }
     }
 

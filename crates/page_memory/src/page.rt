@@ -1,7 +1,7 @@
-ghost use Rattle.std.specs.Prelude.{◌≡◌, ◌<◌, ◌+◌, slice_set, length, take, drop, replicate, nat_le, if◌then◌else◌, Some, None, IfOk};
+ghost use Rattle.std.specs.Prelude.{◌≡◌, ◌<◌, ◌+◌, length, take, drop, replicate, nat_le, if◌then◌else◌, Some, None, IfSome, IfOk};
 ghost use Rattle.machine_state.specs.Output.{byte_in};
 ghost use Rattle.std.specs.Option.{option_copied};
-ghost use Rattle.page_memory.specs.Pages.{page_of};
+ghost use Rattle.page_memory.specs.Pages.{page_of, takes, with_bytes_from};
 ghost use Rattle.page_memory.specs.Ranges.{lent_in};
 
 use crate::mode::Mode;
@@ -58,9 +58,11 @@ impl Page {
     }
 
     /// The bytes from an offset on, where the page has so many and isn't unmapped.
+    #[inline]
     pub(crate) fn lend(&self, offset: usize, len: usize) -> Option<&[u8]>
         requires { offset < 4096 }
-        ensures { option_copied result ≡ lent_in (page_of self.now) offset len }
+        ensures part { option_copied result ≡ lent_in (page_of self.now) offset len }
+        ensures whole { IfSome result (λ bytes. length bytes.now ≡ len) }
     {
         match self.mode {
             Mode::Unmapped => None,
@@ -69,12 +71,18 @@ impl Page {
         }
     }
 
-    /// Changes the byte at an offset.
-    pub(crate) fn set(&mut self, offset: usize, byte: u8)
+    /// Changes the bytes from an offset on, where the page has so many and may be written, and tells whether it does.
+    #[inline]
+    pub(crate) fn put(&mut self, offset: usize, bytes: &[u8]) -> bool
         requires { offset < 4096 }
-        ensures { self.new ≡ record self.old { bytes = slice_set self.old.bytes offset byte } }
+        ensures answer { result ≡ takes (page_of self.old) offset (length bytes.now) }
+        ensures page { self.new ≡ (if result then record self.old { bytes = with_bytes_from self.old.bytes offset bytes.now } else self.old) }
     {
-        self.bytes[offset] = byte;
+        match self.mode {
+            Mode::Unmapped => false,
+            Mode::Readable => false,
+            Mode::Writable => put_part(&mut self.bytes, offset, bytes),
+        }
     }
 
     /// Gives the page another mode.
@@ -94,14 +102,32 @@ impl Page {
 }
 
 /// So many bytes of a page from an offset on, where it has so many.
+#[inline]
 fn part(bytes: &[u8], offset: usize, len: usize) -> Option<&[u8]>
     requires whole { length bytes.now ≡ 4096 }
     requires within { offset < 4096 }
-    ensures { option_copied result ≡ (if nat_le (offset + len) 4096 then Some (take len (drop offset bytes.now)) else None) }
+    ensures part { option_copied result ≡ (if nat_le (offset + len) 4096 then Some (take len (drop offset bytes.now)) else None) }
+    ensures whole { IfSome result (λ bytes. length bytes.now ≡ len) }
 {
     if 4096 - offset < len {
         None
     } else {
         Some(&bytes[offset..offset + len])
     }
+}
+
+/// Changes the bytes of a page from an offset on, where it has so many, and tells whether it has.
+#[inline]
+fn put_part(page: &mut [u8], offset: usize, bytes: &[u8]) -> bool
+    requires whole { length page.old ≡ 4096 }
+    requires within { offset < 4096 }
+    ensures answer { result ≡ nat_le (offset + length bytes.now) 4096 }
+    ensures page { page.new ≡ (if result then with_bytes_from page.old offset bytes.now else page.old) }
+    ensures whole { length page.new ≡ 4096 }
+{
+    if 4096 - offset < bytes.len() {
+        return false;
+    }
+    page[offset..offset + bytes.len()].copy_from_slice(bytes);
+    true
 }

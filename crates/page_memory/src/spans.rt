@@ -1,5 +1,6 @@
-ghost use Rattle.std.specs.Prelude.{◌≡◌};
+ghost use Rattle.std.specs.Prelude.{◌≡◌, ◌+◌, ◌^◌, ◌≤◌, false, None, IfSome, length};
 ghost use Rattle.std.specs.Option.{option_copied};
+ghost use Rattle.page_memory.specs.Access.{least_refused, touched};
 ghost use Rattle.page_memory.specs.Ranges.{is_barred, IsLeastBarred, lent};
 
 use crate::memory::Memory;
@@ -34,10 +35,45 @@ impl Memory {
         self.refuses(writing, at as u32)
     }
 
+    /// The least address that an access touches and may not.
+    pub(crate) fn least_refused(&self, writing: bool, at: u32, len: u32) -> Option<u32>
+        ensures { result ≡ least_refused self.now writing at len }
+    {
+        let end = u64::from(at) + u64::from(len);
+        if end <= 0x1_0000_0000 {
+            return self.least_in(writing, at, u64::from(len));
+        }
+        match self.least_in(writing, 0, end - 0x1_0000_0000) {
+            Some(least) => Some(least),
+            None => self.least_in(writing, at, 0x1_0000_0000 - u64::from(at)),
+        }
+    }
+
+    /// The least address that an access touches and may not, where it ends at 2^32 or before.
+    fn least_in(&self, writing: bool, at: u32, len: u64) -> Option<u32>
+        requires { at + len ≤ 2 ^ 32 }
+        ensures { result ≡ least_refused self.now writing at len }
+    {
+        match self.refused(u64::from(at), len, writing) {
+            Some(least) => Some(least as u32),
+            None => None,
+        }
+    }
+
     /// The bytes of a range, without a copy, where it lies within one page and may be read. An empty range does everywhere.
-    #[tactic(auto, using(crate::proofs::Views::viewed))]
     pub fn lend(&self, at: u32, len: u32) -> Option<&[u8]>
         ensures { option_copied result ≡ lent self.now at len }
+    {
+        self.view(at, len)
+    }
+
+    /// What `lend` gives, which are the bytes that a load touches and isn't refused.
+    #[tactic(auto, using(crate::proofs::Views::viewed), unfolding(crate::specs::Access::least_refused, crate::specs::Access::touched))]
+    pub(crate) fn view(&self, at: u32, len: u32) -> Option<&[u8]>
+        ensures lent { option_copied result ≡ lent self.now at len }
+        ensures whole { IfSome result (λ bytes. length bytes.now ≡ len) }
+        ensures touched { IfSome result (λ bytes. bytes.now ≡ touched self.now at len) }
+        ensures allowed { IfSome result (λ _. least_refused self.now false at len ≡ None) }
     {
         if len == 0 {
             return Some(&[]);
