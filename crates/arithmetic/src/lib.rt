@@ -6,10 +6,17 @@
 //! `specs/Operations.antt`, over the words of `specs/Words.antt`.
 #![tactic(auto)]
 
+ghost use Rattle.arithmetic.specs.Laws.{ResultsAreWords};
+
 mod operations;
 mod words;
 
 pub use operations::{Binary, Condition, Unary};
+
+/// What an operation on two words gives is a word.
+pub fn results_are_words()
+    ensures { ResultsAreWords }
+{}
 
 #[cfg(test)]
 mod tests;

@@ -300,3 +300,9 @@ fn comparisons(rt: HostRuntime) {
     compares(rt, Condition::GeS, true, true, false);
     compares(rt, Condition::GtS, false, true, false);
 }
+
+/// Nothing of this law is seen where a program runs: the test shows that it can be called.
+#[test]
+fn a_law_of_results_is_there() {
+    results_are_words();
+}
