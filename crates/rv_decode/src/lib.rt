@@ -4,7 +4,9 @@
 //! `specs/Operations.antt`, and `IsOp` there says which operations words have.
 #![tactic(auto)]
 
+mod fields;
 mod ops;
+mod tables;
 mod words;
 
 pub use ops::{Alu, AluImm, Cond, LoadWidth, Reg, RvOp, StoreWidth, WordFault};

@@ -150,8 +150,8 @@ pub enum RvOp {
         rs2: Reg,
         imm: i32,
     },
-    /// An operation on rs1 and the immediate into rd. The immediate has 12 bits; that of a shift is its amount, 0 to 63,
-    /// and of `slliw`, `srliw` and `sraiw` 0 to 31.
+    /// An operation on rs1 and the immediate into rd. The immediate has 12 bits; that of a shift is its amount, 0 to
+    /// 63, and of `slliw`, `srliw` and `sraiw` 0 to 31.
     OpImm {
         op: AluImm,
         rd: Reg,
