@@ -1,3 +1,15 @@
 pub mod Objects
-pub mod Shape
+pub mod Fields
+pub mod Headers
+pub mod Contents
+pub mod Sections
+pub mod Symbols
+pub mod Widths
+pub mod Relocations
+pub mod FileObject
+pub mod Rules
+pub mod Faults
+pub mod FirstFaults
 pub mod Reading
+pub mod Sound
+pub mod Index

@@ -12,7 +12,7 @@ pub struct Fault {
     pub object: u32,
     /// The section's number in the object, from 0.
     pub section: u32,
-    /// A number in the section: an offset in bytes, or of a symbol its number.
+    /// A number in the section: an offset in bytes, or the number of a symbol or relocation.
     pub offset: u64,
 }
 
@@ -34,4 +34,15 @@ impl From<AllocError> for ObjectFault {
     fn from(_: AllocError) -> Self {
         ObjectFault::Memory
     }
+}
+
+/// A fault of a file whose number in the link isn't known.
+#[derive(Clone, Copy, Debug, PartialEq, Eq)]
+pub struct Refusal {
+    /// The number of the fault's kind, from 1 to 8.
+    pub code: u8,
+    /// The section's number, and 0 for the file as a whole.
+    pub section: u32,
+    /// The number of the symbol or relocation in the section, and 0 for the section as a whole.
+    pub offset: u64,
 }

@@ -1,16 +1,31 @@
 //! Relocatable objects of ELF64 (System V gABI, "Object Files"; RISC-V ELF psABI).
 //!
-//! What an object is stands in `specs/Objects.antt`, and which bytes are one in `specs/Shape.antt`: so far one shape,
-//! a text whose symbol `main` stands at its start.
+//! What an object is stands in `specs/Objects.antt`, and which object the bytes of a file are in
+//! `specs/FileObject.antt`. A file that breaks a rule of `specs/Rules.antt` is refused with the first of its faults in
+//! the order of `specs/Faults.antt`.
 #![tactic(auto)]
 
 mod fault;
+mod file;
+mod little_endian;
+mod name_rules;
 mod object;
+mod objects;
 mod parts;
-mod shape;
+mod relocation_entry;
+mod relocation_index;
+mod relocation_rules;
+mod section_header;
+mod section_rules;
+mod sound_file;
+mod string_table;
+mod symbol_entry;
+mod symbol_rules;
+mod tables;
 
 pub use fault::{Fault, NOT_BUILT, ObjectFault};
 pub use object::Object;
+pub use objects::Objects;
 pub use parts::{Binding, Relocation, Section, SectionKind, Symbol, SymbolIndex};
 
 #[cfg(test)]

@@ -20,7 +20,7 @@ pub struct Section<'a> {
     pub kind: SectionKind,
     /// The size in memory, in bytes.
     pub size: u64,
-    /// The alignment of its address, at least 1.
+    /// The alignment of its address, at least 1; of a section that is loaded a power of two up to 4096.
     pub align: u64,
     /// The section's bytes in the file; none of a section of type NULL or NOBITS.
     pub content: &'a [u8],

@@ -1,120 +1,522 @@
+ghost use Rattle.std.specs.Prelude.{◌≤◌, ◌^◌, length};
+
 use super::*;
+use std::alloc::{AllocError, Global};
+use std::process::Abort;
 use std::test::*;
 
-/// The object with the text `addi a0, x0, 5` and `ret`.
-const FILE: [u8; 480] = [
-    0x7f, 0x45, 0x4c, 0x46, 0x02, 0x01, 0x01, 0, 0, 0, 0, 0, 0, 0, 0, 0, 0x01, 0, 0xf3, 0, 0x01, 0,
-    0, 0, 0, 0, 0, 0, 0, 0, 0, 0, 0, 0, 0, 0, 0, 0, 0, 0, 0xa0, 0, 0, 0, 0, 0, 0, 0, 0x08, 0, 0, 0,
-    0x40, 0, 0, 0, 0, 0, 0x40, 0, 0x05, 0, 0x04, 0, 0x13, 0x05, 0x50, 0, 0x67, 0x80, 0, 0, 0, 0, 0,
-    0, 0, 0, 0, 0, 0, 0, 0, 0, 0, 0, 0, 0, 0, 0, 0, 0, 0, 0, 0, 0, 0x01, 0, 0, 0, 0x12, 0, 0x01, 0,
-    0, 0, 0, 0, 0, 0, 0, 0, 0x08, 0, 0, 0, 0, 0, 0, 0, 0, 0x6d, 0x61, 0x69, 0x6e, 0, 0, 0x2e, 0x74,
-    0x65, 0x78, 0x74, 0, 0x2e, 0x73, 0x79, 0x6d, 0x74, 0x61, 0x62, 0, 0x2e, 0x73, 0x74, 0x72, 0x74,
-    0x61, 0x62, 0, 0x2e, 0x73, 0x68, 0x73, 0x74, 0x72, 0x74, 0x61, 0x62, 0, 0, 0, 0, 0, 0, 0, 0, 0,
-    0, 0, 0, 0, 0, 0, 0, 0, 0, 0, 0, 0, 0, 0, 0, 0, 0, 0, 0, 0, 0, 0, 0, 0, 0, 0, 0, 0, 0, 0, 0, 0,
-    0, 0, 0, 0, 0, 0, 0, 0, 0, 0, 0, 0, 0, 0, 0, 0, 0, 0, 0, 0, 0, 0, 0, 0, 0, 0x01, 0, 0, 0, 0x01,
-    0, 0, 0, 0x06, 0, 0, 0, 0, 0, 0, 0, 0, 0, 0, 0, 0, 0, 0, 0, 0x40, 0, 0, 0, 0, 0, 0, 0, 0x08, 0,
-    0, 0, 0, 0, 0, 0, 0, 0, 0, 0, 0, 0, 0, 0, 0x04, 0, 0, 0, 0, 0, 0, 0, 0, 0, 0, 0, 0, 0, 0, 0,
-    0x07, 0, 0, 0, 0x02, 0, 0, 0, 0, 0, 0, 0, 0, 0, 0, 0, 0, 0, 0, 0, 0, 0, 0, 0, 0x48, 0, 0, 0, 0,
-    0, 0, 0, 0x30, 0, 0, 0, 0, 0, 0, 0, 0x03, 0, 0, 0, 0x01, 0, 0, 0, 0x08, 0, 0, 0, 0, 0, 0, 0,
-    0x18, 0, 0, 0, 0, 0, 0, 0, 0x0f, 0, 0, 0, 0x03, 0, 0, 0, 0, 0, 0, 0, 0, 0, 0, 0, 0, 0, 0, 0, 0,
-    0, 0, 0, 0x78, 0, 0, 0, 0, 0, 0, 0, 0x06, 0, 0, 0, 0, 0, 0, 0, 0, 0, 0, 0, 0, 0, 0, 0, 0x01, 0,
-    0, 0, 0, 0, 0, 0, 0, 0, 0, 0, 0, 0, 0, 0, 0x17, 0, 0, 0, 0x03, 0, 0, 0, 0, 0, 0, 0, 0, 0, 0, 0,
-    0, 0, 0, 0, 0, 0, 0, 0, 0x7e, 0, 0, 0, 0, 0, 0, 0, 0x21, 0, 0, 0, 0, 0, 0, 0, 0, 0, 0, 0, 0, 0,
-    0, 0, 0x01, 0, 0, 0, 0, 0, 0, 0, 0, 0, 0, 0, 0, 0, 0, 0,
+/// The section headers of the object: name, type, flags, offset, size, link, info, alignment, entry size.
+const HEADERS: [(u32, u32, u64, u64, u64, u32, u32, u64, u64); 10] = [
+    (0, 0, 0, 0, 0, 0, 0, 0, 0),
+    (1, 1, 6, 704, 8, 0, 0, 4, 0), // .text
+    (7, 1, 3, 712, 8, 0, 0, 8, 0), // .data
+    (13, 8, 3, 720, 16, 0, 0, 0, 0), // .bss
+    (18, 4, 0, 720, 48, 6, 1, 8, 24), // .rela.text
+    (18, 4, 0, 768, 24, 6, 1, 8, 24), // .rela.text, a second one
+    (29, 2, 0, 792, 72, 7, 2, 8, 24), // .symtab
+    (37, 3, 0, 864, 10, 0, 0, 1, 0), // .strtab
+    (45, 3, 0, 874, 69, 0, 0, 1, 0), // .shstrtab
+    (55, 1, 2, 943, 24, 7, 0, 3, 24), // .eh_frame_hdr, which isn't loaded, so that its alignment doesn't count
 ];
 
-const REFUSED: ObjectFault = ObjectFault::Bad(Fault {
-    code: 63,
-    object: 7,
-    section: 0,
-    offset: 0,
-});
+const SECTION_NAMES: &[u8; 69] =
+    b"\0.text\0.data\0.bss\0.rela.text\0.symtab\0.strtab\0.shstrtab\0.eh_frame_hdr\0";
+
+const SYMBOL_NAMES: &[u8; 10] = b"\0main\0buf\0";
+
+// Where fields stand in a section header, in a symbol and in a relocation.
+const NAME: usize = 0;
+
+const TYPE: usize = 4;
+
+const FLAGS: usize = 8;
+
+const SIZE: usize = 32;
+
+const LINK: usize = 40;
+
+const INFO: usize = 44;
+
+const ALIGN: usize = 48;
+
+const ENTRY_SIZE: usize = 56;
+
+const SYMBOL_INFO: usize = 4;
+
+const SYMBOL_INDEX: usize = 6;
+
+const SYMBOL_VALUE: usize = 8;
+
+const RELOCATION_OFFSET: usize = 0;
+
+const RELOCATION_SYMBOL: usize = 12;
+
+/// The object: the headers of file and sections, and the contents of the sections in their order.
+fn object_bytes(alloc: Global) -> Result<Vec<u8>, AllocError> {
+    let mut out = Vec::new(alloc);
+    out.extend_from_slice(b"\x7fELF\x02\x01\x01\0\0\0\0\0\0\0\0\0")?;
+    put_16(1, &mut out)?;
+    put_16(243, &mut out)?;
+    put_32(1, &mut out)?;
+    put_64(0, &mut out)?;
+    put_64(0, &mut out)?;
+    put_64(64, &mut out)?;
+    put_32(8, &mut out)?;
+    for number in [64u16, 0, 0, 64, 10, 8] {
+        put_16(number, &mut out)?;
+    }
+    put_headers(&mut out)?;
+    out.extend_from_slice(&[0x13, 0x05, 0x50, 0, 0x67, 0x80, 0, 0])?;
+    out.extend_from_slice(&[1, 2, 3, 4, 5, 6, 7, 8])?;
+    put_relocation(0, 18, 1, 0, &mut out)?;
+    put_relocation(8, 43, 0, 2, &mut out)?;
+    put_relocation(4, 16, 2, -1, &mut out)?;
+    put_symbol(0, 0, 0, 0, &mut out)?;
+    put_symbol(6, 1, 3, 16, &mut out)?;
+    put_symbol(1, 0x12, 1, 0, &mut out)?;
+    out.extend_from_slice(SYMBOL_NAMES)?;
+    out.extend_from_slice(SECTION_NAMES)?;
+    out.extend_from_slice(&[0; 24])?;
+    Ok(out)
+}
+
+fn put_headers(out: &mut Vec<u8>) -> Result<(), AllocError> {
+    for (name, kind, flags, offset, size, link, info, align, entry_size) in HEADERS {
+        put_32(name, out)?;
+        put_32(kind, out)?;
+        put_64(flags, out)?;
+        put_64(0, out)?;
+        put_64(offset, out)?;
+        put_64(size, out)?;
+        put_32(link, out)?;
+        put_32(info, out)?;
+        put_64(align, out)?;
+        put_64(entry_size, out)?;
+    }
+    Ok(())
+}
+
+fn put_relocation(
+    offset: u64,
+    kind: u32,
+    symbol: u32,
+    addend: i64,
+    out: &mut Vec<u8>,
+) -> Result<(), AllocError> {
+    put_64(offset, out)?;
+    put_32(kind, out)?;
+    put_32(symbol, out)?;
+    put_64(addend.cast_unsigned(), out)
+}
+
+fn put_symbol(
+    name: u32,
+    info: u8,
+    index: u16,
+    value: u64,
+    out: &mut Vec<u8>,
+) -> Result<(), AllocError> {
+    put_32(name, out)?;
+    out.extend_from_slice(&[info, 0])?;
+    put_16(index, out)?;
+    put_64(value, out)?;
+    put_64(0, out)
+}
+
+fn put_16(n: u16, out: &mut Vec<u8>) -> Result<(), AllocError> {
+    out.extend_from_slice(&n.to_le_bytes())
+}
+
+fn put_32(n: u32, out: &mut Vec<u8>) -> Result<(), AllocError> {
+    out.extend_from_slice(&n.to_le_bytes())
+}
+
+fn put_64(n: u64, out: &mut Vec<u8>) -> Result<(), AllocError> {
+    out.extend_from_slice(&n.to_le_bytes())
+}
+
+/// The object with some bytes changed, by their places.
+fn edited(rt: &impl Abort, alloc: Global, edits: &[(usize, u8)]) -> Result<Vec<u8>, AllocError> {
+    let mut file = object_bytes(alloc)?;
+    for (at, byte) in edits {
+        match file.get_mut(*at) {
+            Some(place) => *place = *byte,
+            None => assert!(rt; false, "no byte {at}"),
+        }
+    }
+    Ok(file)
+}
+
+/// The place of a byte of a field in the header of a section.
+fn field(section: usize, field: usize) -> usize {
+    (section % 10) * 64 + 64 + field % 64
+}
+
+/// The place of a byte of a field in a symbol.
+fn symbol_field(symbol: usize, field: usize) -> usize {
+    (symbol % 3) * 24 + 792 + field % 24
+}
+
+/// The place of a byte of a field in a relocation of either table.
+fn relocation_field(relocation: usize, field: usize) -> usize {
+    (relocation % 3) * 24 + 720 + field % 24
+}
+
+/// The code, section and offset of the fault of a file.
+fn fault_of(rt: &impl Abort, alloc: Global, file: &[u8]) -> Result<(u8, u32, u64), Fail> {
+    assert!(rt; file.len() < 4096);
+    match Object::read(alloc, file, 7) {
+        Ok(_) => Ok((0, 0, 0)),
+        Err(ObjectFault::Bad(fault)) => {
+            assert_eq!(rt; fault.object, 7);
+            Ok((fault.code, fault.section, fault.offset))
+        }
+        Err(ObjectFault::Memory) => Err(Fail::from(AllocError)),
+    }
+}
+
+/// Asserts the fault of the object with one byte changed.
+fn expect_fault(
+    rt: &impl Abort,
+    alloc: Global,
+    at: usize,
+    byte: u8,
+    fault: (u8, u32, u64),
+) -> Result<(), Fail> {
+    let file = edited(rt, alloc, &[(at, byte)])?;
+    assert_eq!(rt; fault_of(rt, alloc, &file)?, fault, "byte {at}");
+    Ok(())
+}
+
+/// Asserts what a section is: its name and kind, its size and alignment, and how long its content is and how many
+/// relocations it has.
+fn expect_section(
+    rt: &impl Abort,
+    object: &Object<'_>,
+    at: u32,
+    name: &[u8],
+    kind: SectionKind,
+    numbers: (u64, u64, usize, u32),
+) {
+    assert!(rt; at < object.sections());
+    let section = object.section(at);
+    let (size, align, len, relocations) = numbers;
+    assert_eq!(rt; section.name, name);
+    assert_eq!(rt; section.kind, kind);
+    assert_eq!(rt; (section.size, section.align), (size, align));
+    assert_eq!(rt; section.content.len(), len);
+    assert_eq!(rt; object.relocations(at), relocations);
+}
 
 #[test]
-fn lends_the_parts_of_an_object(rt: HostRuntime) -> Result<(), Fail> {
-    let object = Object::read(rt.alloc(), &FILE, 0)?;
-    let sections: [(&[u8], SectionKind, u64, u64, &[u8]); 5] = [
-        (b"", SectionKind::Unloaded, 0, 1, b""),
-        (b".text", SectionKind::Code, 8, 4, &FILE[64..72]),
-        (b".symtab", SectionKind::Unloaded, 48, 8, &FILE[72..120]),
-        (b".strtab", SectionKind::Unloaded, 6, 1, b"\0main\0"),
-        (b".shstrtab", SectionKind::Unloaded, 33, 1, &FILE[126..159]),
+fn reads_sections(rt: HostRuntime) -> Result<(), Fail> {
+    let file = object_bytes(rt.alloc())?;
+    assert_eq!(rt; file.len(), 967);
+    let object = Object::read(rt.alloc(), &file, 0)?;
+    assert_eq!(rt; object.sections(), 10);
+    expect_section(&rt, &object, 0, b"", SectionKind::Unloaded, (0, 1, 0, 0));
+    expect_section(&rt, &object, 1, b".text", SectionKind::Code, (8, 4, 8, 3));
+    expect_section(
+        &rt,
+        &object,
+        2,
+        b".data",
+        SectionKind::Writable,
+        (8, 8, 8, 0),
+    );
+    expect_section(&rt, &object, 3, b".bss", SectionKind::Zero, (16, 1, 0, 0));
+    expect_section(
+        &rt,
+        &object,
+        4,
+        b".rela.text",
+        SectionKind::Unloaded,
+        (48, 8, 48, 0),
+    );
+    expect_section(
+        &rt,
+        &object,
+        5,
+        b".rela.text",
+        SectionKind::Unloaded,
+        (24, 8, 24, 0),
+    );
+    expect_section(
+        &rt,
+        &object,
+        6,
+        b".symtab",
+        SectionKind::Unloaded,
+        (72, 8, 72, 0),
+    );
+    expect_section(
+        &rt,
+        &object,
+        7,
+        b".strtab",
+        SectionKind::Unloaded,
+        (10, 1, 10, 0),
+    );
+    expect_section(
+        &rt,
+        &object,
+        8,
+        b".shstrtab",
+        SectionKind::Unloaded,
+        (69, 1, 69, 0),
+    );
+    expect_section(
+        &rt,
+        &object,
+        9,
+        b".eh_frame_hdr",
+        SectionKind::Unloaded,
+        (24, 3, 24, 0),
+    );
+    assert_eq!(rt;
+        object.section(2).content,
+        [1, 2, 3, 4, 5, 6, 7, 8].as_slice()
+    );
+    Ok(())
+}
+
+#[test]
+fn reads_symbols(rt: HostRuntime) -> Result<(), Fail> {
+    let file = object_bytes(rt.alloc())?;
+    assert_eq!(rt; file.len(), 967);
+    let object = Object::read(rt.alloc(), &file, 0)?;
+    assert_eq!(rt; (object.symbols(), object.symbol_table()), (3, 6));
+    let symbols: [(&[u8], Binding, SymbolIndex, u64); 3] = [
+        (b"", Binding::Local, SymbolIndex::Undefined, 0),
+        (b"buf", Binding::Local, SymbolIndex::Section(3), 16),
+        (b"main", Binding::Global, SymbolIndex::Section(1), 0),
     ];
-    assert_eq!(rt; object.sections(), 5);
-    for at in 0..5u32 {
-        let (name, kind, size, align, content) = sections[at as usize];
-        let section = object.section(at);
-        assert_eq!(rt; section.name, name);
-        assert_eq!(rt; section.kind, kind);
-        assert_eq!(rt; (section.size, section.align), (size, align));
-        assert_eq!(rt; section.content, content);
-        assert_eq!(rt; object.relocations(at), 0);
+    for at in 0..3u32 {
+        let (name, binding, index, value) = symbols[at as usize];
+        let symbol = object.symbol(at);
+        assert_eq!(rt; symbol.name, name);
+        assert_eq!(rt; symbol.binding, binding);
+        assert_eq!(rt; symbol.index, index);
+        assert_eq!(rt; symbol.value, value);
     }
-    assert_eq!(rt; (object.symbols(), object.symbol_table()), (2, 2));
-    let null = object.symbol(0);
-    assert!(rt; null.name.is_empty());
-    assert_eq!(rt;
-        (null.binding, null.index),
-        (Binding::Local, SymbolIndex::Undefined)
-    );
-    let main = object.symbol(1);
-    assert_eq!(rt; main.name, b"main".as_slice());
-    assert_eq!(rt;
-        (main.binding, main.index),
-        (Binding::Global, SymbolIndex::Section(1))
-    );
-    assert_eq!(rt; (null.value, main.value), (0, 0));
+    Ok(())
+}
+
+#[test]
+fn reads_relocations_of_two_tables(rt: HostRuntime) -> Result<(), Fail> {
+    let file = object_bytes(rt.alloc())?;
+    assert_eq!(rt; file.len(), 967);
+    let object = Object::read(rt.alloc(), &file, 0)?;
+    assert_eq!(rt; object.sections(), 10);
+    assert_eq!(rt; object.relocations(1), 3);
+    let relocations = [(0u64, 18u32, 1u32, 0i64), (8, 43, 0, 2), (4, 16, 2, -1)];
+    for at in 0..3u32 {
+        let (offset, kind, symbol, addend) = relocations[at as usize];
+        let relocation = object.relocation(1, at);
+        assert_eq!(rt; (relocation.offset, relocation.kind), (offset, kind));
+        assert_eq!(rt; (relocation.symbol, relocation.addend), (symbol, addend));
+    }
+    Ok(())
+}
+
+#[test]
+fn reads_an_object_without_symbols(rt: HostRuntime) -> Result<(), Fail> {
+    // the symbol table becomes a plain section, and the targets of the relocations one that isn't loaded
+    let edits = [
+        (field(6, TYPE), 1),
+        (field(4, INFO), 0),
+        (field(5, INFO), 0),
+    ];
+    let file = edited(&rt, rt.alloc(), &edits)?;
+    assert!(rt; file.len() < 4096);
+    let object = Object::read(rt.alloc(), &file, 0)?;
+    assert_eq!(rt; (object.symbols(), object.symbol_table()), (1, 0));
+    let symbol = object.symbol(0);
+    assert!(rt; symbol.name.is_empty());
+    assert_eq!(rt; symbol.binding, Binding::Local);
+    assert_eq!(rt; symbol.index, SymbolIndex::Undefined);
+    assert_eq!(rt; object.sections(), 10);
+    assert_eq!(rt; object.relocations(1), 0);
+    Ok(())
+}
+
+#[test]
+fn passes_what_breaks_no_rule(rt: HostRuntime) -> Result<(), Fail> {
+    // a NOTE with ALLOC, the greatest alignment, and a bad one of a section that isn't loaded; then relocations for a
+    // section that isn't loaded with entries of any size, and the indexes ABS and COMMON
+    for (at, byte) in [
+        (field(2, TYPE), 7),
+        (field(3, ALIGN + 1), 0x10),
+        (field(8, ALIGN), 3),
+        (field(0, NAME), 1),
+    ] {
+        let file = edited(&rt, rt.alloc(), &[(at, byte)])?;
+        assert_eq!(rt; fault_of(&rt, rt.alloc(), &file)?, (0, 0, 0), "byte {at}");
+    }
+    for edits in [
+        [(field(4, INFO), 9), (field(4, ENTRY_SIZE), 1)],
+        [
+            (symbol_field(2, SYMBOL_INDEX), 0xf1),
+            (symbol_field(2, SYMBOL_INDEX + 1), 0xff),
+        ],
+        [
+            (symbol_field(2, SYMBOL_INDEX), 0xf2),
+            (symbol_field(2, SYMBOL_INDEX + 1), 0xff),
+        ],
+    ] {
+        let file = edited(&rt, rt.alloc(), &edits)?;
+        assert_eq!(rt; fault_of(&rt, rt.alloc(), &file)?, (0, 0, 0));
+    }
     Ok(())
 }
 
 #[test]
 fn refuses_other_files(rt: HostRuntime) -> Result<(), Fail> {
-    // a byte of the magic, the machine, the flags, the count of sections, the null symbol, main's size, the names, the
-    // byte behind them, and the headers of the null section, the text and the last section
-    for at in [0usize, 18, 48, 60, 72, 112, 121, 140, 159, 160, 256, 479] {
-        let mut file = FILE;
-        if let Some(byte) = file.get_mut(at) {
-            *byte ^= 1;
-        }
-        assert_eq!(rt;
-            Object::read(rt.alloc(), &file, 7).err(),
-            Some(REFUSED),
-            "at {at}"
-        );
+    let alloc = rt.alloc();
+    for (len, code) in [(0, 1), (63, 1), (703, 4)] {
+        let mut file = object_bytes(alloc)?;
+        file.truncate(len);
+        assert_eq!(rt; fault_of(&rt, alloc, &file)?, (code, 0, 0));
     }
-    for cut in [
-        &FILE[..0],
-        &FILE[..64],
-        &FILE[..472],
-        &FILE[..476],
-        &FILE[..479],
-        &FILE[1..],
+    for (at, byte, code) in [
+        (0, 0, 1),
+        (6, 2, 1),
+        (16, 2, 2),
+        (18, 62, 2),
+        (20, 2, 2),
+        (48, 9, 3),
+        (58, 65, 4),
+        (60, 0, 4),
+        (41, 255, 4),
+        (62, 10, 4),
+        (62, 1, 4),
     ] {
-        assert_eq!(rt; Object::read(rt.alloc(), cut, 7).err(), Some(REFUSED));
+        expect_fault(&rt, alloc, at, byte, (code, 0, 0))?;
     }
     Ok(())
 }
 
 #[test]
-fn reads_a_text_of_no_bytes(rt: HostRuntime) -> Result<(), Fail> {
-    let mut file = FILE[..64].to_vec(rt.alloc())?;
-    file.extend_from_slice(&FILE[72..])?;
-    // the offset of the section headers, the sizes of main and of the text, and the offsets of the three tables
-    for (at, byte) in [
-        (40, 152),
-        (104, 0),
-        (248, 0),
-        (304, 64),
-        (368, 112),
-        (432, 118),
+fn refuses_bad_tables(rt: HostRuntime) -> Result<(), Fail> {
+    let alloc = rt.alloc();
+    // section 0 isn't NULL; bytes past the file; a symbol table without names, with other entries, not whole, or a
+    // second one; relocations without a target, by other symbols, with other entries or not whole; alignments of 3, of
+    // 8192, and of a section that begins with .eh_frame no more
+    for (section, at, byte) in [
+        (0u32, TYPE, 1),
+        (2, SIZE + 2, 1),
+        (6, LINK, 1),
+        (6, LINK, 10),
+        (6, ENTRY_SIZE, 23),
+        (6, SIZE, 71),
+        (9, TYPE, 2),
+        (4, INFO, 10),
+        (4, LINK, 7),
+        (4, ENTRY_SIZE, 25),
+        (5, SIZE, 23),
+        (1, ALIGN, 3),
+        (3, ALIGN + 1, 0x20),
+        (9, NAME, 1),
     ] {
-        if let Some(place) = file.get_mut(at) {
-            *place = byte;
-        }
+        expect_fault(
+            &rt,
+            alloc,
+            field(section as usize, at),
+            byte,
+            (4, section, 0),
+        )?;
     }
-    assert_eq!(rt; file.len(), 472);
-    let object = Object::read(rt.alloc(), &file, 0)?;
-    assert_eq!(rt; object.sections(), 5);
-    assert!(rt; object.section(1).content.is_empty());
+    Ok(())
+}
+
+#[test]
+fn refuses_sections_that_are_not_supported(rt: HostRuntime) -> Result<(), Fail> {
+    let alloc = rt.alloc();
+    // types REL, GROUP and SYMTAB_SHNDX, and TLS, also where the section isn't loaded; INIT_ARRAY with ALLOC;
+    // COMPRESSED; instructions that may be written, or that have no bytes; and zeros that may not be written
+    for (section, at, byte) in [
+        (9u32, TYPE, 9),
+        (9, TYPE, 17),
+        (9, TYPE, 18),
+        (9, FLAGS + 1, 4),
+        (2, TYPE, 14),
+        (2, FLAGS + 1, 8),
+        (1, FLAGS, 7),
+        (3, FLAGS, 6),
+        (3, FLAGS, 2),
+    ] {
+        expect_fault(
+            &rt,
+            alloc,
+            field(section as usize, at),
+            byte,
+            (8, section, 0),
+        )?;
+    }
+    Ok(())
+}
+
+#[test]
+fn refuses_names_symbols_and_relocations(rt: HostRuntime) -> Result<(), Fail> {
+    let alloc = rt.alloc();
+    // names past the table, and one without a 00
+    expect_fault(&rt, alloc, field(2, NAME), 69, (5, 2, 0))?;
+    expect_fault(&rt, alloc, symbol_field(1, NAME), 10, (5, 6, 1))?;
+    expect_fault(&rt, alloc, 873, b'x', (5, 6, 1))?;
+    // a binding, a type, a section that isn't there, LOCAL and undefined, and a value past the section
+    expect_fault(&rt, alloc, symbol_field(2, SYMBOL_INFO), 0x32, (6, 6, 2))?;
+    expect_fault(&rt, alloc, symbol_field(2, SYMBOL_INFO), 0x15, (6, 6, 2))?;
+    expect_fault(&rt, alloc, symbol_field(2, SYMBOL_INDEX), 10, (6, 6, 2))?;
+    expect_fault(&rt, alloc, symbol_field(1, SYMBOL_INDEX), 0, (6, 6, 1))?;
+    expect_fault(&rt, alloc, symbol_field(1, SYMBOL_VALUE), 17, (6, 6, 1))?;
+    // a symbol that isn't there, and bytes past the section
+    expect_fault(
+        &rt,
+        alloc,
+        relocation_field(0, RELOCATION_SYMBOL),
+        3,
+        (7, 4, 0),
+    )?;
+    expect_fault(
+        &rt,
+        alloc,
+        relocation_field(0, RELOCATION_OFFSET),
+        1,
+        (7, 4, 0),
+    )?;
+    expect_fault(
+        &rt,
+        alloc,
+        relocation_field(1, RELOCATION_OFFSET),
+        9,
+        (7, 4, 1),
+    )?;
+    expect_fault(
+        &rt,
+        alloc,
+        relocation_field(2, RELOCATION_OFFSET),
+        5,
+        (7, 5, 0),
+    )
+}
+
+#[test]
+fn tells_the_first_fault(rt: HostRuntime) -> Result<(), Fail> {
+    // a table, a form, a name, a symbol and a relocation, in this order though most stand in earlier sections
+    let table = (field(9, NAME), 1);
+    let form = (field(3, FLAGS), 2);
+    let name = (field(2, NAME), 69);
+    let symbol = (symbol_field(1, SYMBOL_VALUE), 17);
+    let relocation = (relocation_field(0, RELOCATION_OFFSET), 1);
+    for (edits, fault) in [
+        ([relocation, symbol], (6, 6, 1)),
+        ([symbol, name], (5, 2, 0)),
+        ([name, form], (8, 3, 0)),
+        ([form, table], (4, 9, 0)),
+        ([table, (48, 9)], (3, 0, 0)),
+    ] {
+        let file = edited(&rt, rt.alloc(), &edits)?;
+        assert_eq!(rt; fault_of(&rt, rt.alloc(), &file)?, fault);
+    }
     Ok(())
 }

@@ -1,0 +1,58 @@
+ghost use Rattle.std.specs.Prelude.{◌≡◌, ◌≤◌, ℕ, length, ◌==◌, position, IfSome};
+ghost use Rattle.elf_objects.specs.Contents.{has_name, name_begins, name_at, EndsNames};
+
+/// A string table, with the place behind its last 00: names begin below it (gABI, "String Table").
+#[derive(Clone, Copy, Debug)]
+pub struct StringTable<'a> {
+    pub bytes: &'a [u8],
+    pub end: usize,
+    pub ghost ends: { EndsNames bytes.now end },
+}
+
+impl<'a> StringTable<'a> {
+    /// The table of these bytes, of which those behind the last 00 are looked at.
+    pub fn new(bytes: &'a [u8]) -> StringTable<'a>
+        ensures { result.bytes.now ≡ bytes.now }
+    {
+        let mut end = bytes.len();
+        while end > 0 && bytes[end - 1] != 0 {
+            end -= 1;
+        }
+        StringTable { bytes, end }
+    }
+
+    /// Whether a name begins at a place, in constant time.
+    pub fn has_name(&self, at: u32) -> bool
+        ensures { result ≡ has_name self.now.bytes.now at }
+    {
+        (at as usize) < self.end
+    }
+
+    /// Whether a name begins at a place, and with a word.
+    pub fn begins(&self, at: u32, word: &[u8]) -> bool
+        ensures { result ≡ name_begins self.now.bytes.now at word.now }
+    {
+        self.has_name(at) && self.bytes[at as usize..].starts_with(word)
+    }
+
+    /// The name at a place.
+    #[tactic(auto, unfolding(crate::specs::Contents::name_at))]
+    pub fn name(&self, at: u32) -> &'a [u8]
+        ensures { result.now ≡ name_at self.now.bytes.now at }
+    {
+        let at = at as usize;
+        if self.bytes.len() <= at {
+            return &[];
+        }
+        let rest = &self.bytes[at..];
+        &rest[..first_zero(rest).unwrap_or(rest.len())]
+    }
+}
+
+/// The place of the first 00.
+fn first_zero(rest: &[u8]) -> Option<usize>
+    ensures position { result ≡ position (λ b. b == 0) rest.now }
+    ensures within { IfSome result (λ len. len ≤ length rest.now) }
+{
+    rest.iter().position(|b| *b == 0)
+}
