@@ -1,0 +1,8 @@
+pub mod Lookups
+pub mod Marking
+pub mod Adding
+pub mod Standing
+pub mod Finding
+pub mod Answering
+pub mod Resolving
+pub mod Within

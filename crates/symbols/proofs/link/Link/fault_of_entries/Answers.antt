@@ -1,0 +1,15 @@
+use Rattle.std.proofs.Common.{◌≡◌, length, arith}
+use Rattle.symbols.specs.Wanted.{given_of}
+use Rattle.symbols.specs.Faults.{faults_of_entry}
+use Rattle.symbols.proofs.Finding.{found_in, none_found}
+use Rattle.symbols.proofs.link.Link.fault_of_entries.Goals as goal
+
+pub returns-in-Some : goal.returns-in-Some
+returns-in-Some c =
+    found_in (faults_of_entry (given_of c.args.self.now.objects.now c.args.self.now.wanted.now)) (length c.args.self.now.wanted.now.entries) c.loop-entry.entry c.in-Some.fault
+    (omega arith) c.loop-entry.invariant (c.in-Some.ensures)
+
+pub returns : goal.returns
+returns c =
+    let all : c.loop-entry.entry ≡ length c.args.self.now.wanted.now.entries = omega arith in
+    none_found (faults_of_entry (given_of c.args.self.now.objects.now c.args.self.now.wanted.now)) (length c.args.self.now.wanted.now.entries) (rw all at c.loop-entry.invariant)
