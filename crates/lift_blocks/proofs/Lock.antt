@@ -2,21 +2,21 @@
 use Rattle.std.proofs.Common.{◌≡◌, ℕ, zero, suc, ◌+◌, ◌≤◌, List, [], ◌∷◌, get_or, map, true, false, length, Bool, Option, Some, None, refl, sym, ap, ◌∙◌, arith, add-one}
 use Rattle.std.specs.Prelude.{slice_get, if◌then◌else◌}
 use Rattle.std.proofs.lemmas.Option.{slice_get_past, slice_get_within, slice_get-get_or}
-use Rattle.rv_decode.specs.declared.ops.AluImm.{AluImm}
-use Rattle.rv_decode.specs.declared.ops.AluImm.TheVariants as imm
+use Rattle.arithmetic.specs.Operations.{holds}
 use Rattle.rv_decode.specs.declared.ops.RvOp.{RvOp}
 use Rattle.rv_decode.specs.declared.ops.RvOp.TheVariants as rv
-use Rattle.runs.specs.Machine.{Ends}
+use Rattle.runs.specs.Machine.{Next, Jump, Ends}
 use Rattle.runs.specs.Numbers.{to_named}
 use Rattle.runs.specs.Laid.{GoesOn, LaidAt}
 use Rattle.machine_state.specs.State.{State}
-use Rattle.machine_state.specs.Ends.{Host, halt, rules}
+use Rattle.machine_state.specs.Ends.{End, Host, halt, rules}
 use Rattle.symbols.specs.Wanted.{Given}
 use Rattle.relocs.specs.Places.{CodePlace, Nowhere, next_place}
 use Rattle.relocs.specs.Words.{raw_at}
 use Rattle.relocs.specs.AddressMap.{needed_places}
+use Rattle.lift_blocks.specs.Arithmetic.{of_cond}
 use Rattle.lift_blocks.specs.Operations.{Operation, Plain, Branch, Jal, Jalr, Pair, HostCall, Sbrk, rename, placed_op, operation_at}
-use Rattle.lift_blocks.specs.Listed.{Lifted, IsLifted, place, or_nowhere, some_if, can_go_on}
+use Rattle.lift_blocks.specs.Listed.{place, or_nowhere, some_if, can_go_on}
 use Rattle.lift_blocks.specs.Step.{plain_does, op_does, value, with_value, behind, fetch_op}
 use Rattle.lift_blocks.specs.Laws.{SourceLock}
 use Rattle.lift_blocks.proofs.Renamed.{does_renamed}
@@ -33,29 +33,21 @@ op_goes_on (HostCall number) = true
 op_goes_on Sbrk = true
 
 plain_goes : (op : RvOp) (s : State) (next behind : CodePlace) → (can_go_on (Some op) ≡ true → next ≡ behind) → GoesOn {Target = ℕ} next behind (plain_does op s)
-plain_goes (rv.Lui rd v) s next behind h = tt
-plain_goes (rv.Auipc rd v) s next behind h = tt
+plain_goes (rv.Lui rd v) s next behind h = h refl
+plain_goes (rv.Auipc rd v) s next behind h = h refl
 plain_goes (rv.Jal rd offset) s next behind h = tt
 plain_goes (rv.Jalr rd rs1 i) s next behind h = tt
 plain_goes (rv.Branch cond rs1 rs2 offset) s next behind h = tt
 plain_goes (rv.Load width rd rs1 i) s next behind h = tt
 plain_goes (rv.Store width rs1 rs2 i) s next behind h = tt
-plain_goes (rv.OpImm imm.Addi rd rs1 i) s next behind h = h refl
-plain_goes (rv.OpImm imm.Slti rd rs1 i) s next behind h = tt
-plain_goes (rv.OpImm imm.Sltiu rd rs1 i) s next behind h = tt
-plain_goes (rv.OpImm imm.Xori rd rs1 i) s next behind h = tt
-plain_goes (rv.OpImm imm.Ori rd rs1 i) s next behind h = tt
-plain_goes (rv.OpImm imm.Andi rd rs1 i) s next behind h = tt
-plain_goes (rv.OpImm imm.Slli rd rs1 i) s next behind h = tt
-plain_goes (rv.OpImm imm.Srli rd rs1 i) s next behind h = tt
-plain_goes (rv.OpImm imm.Srai rd rs1 i) s next behind h = tt
-plain_goes (rv.OpImm imm.Addiw rd rs1 i) s next behind h = tt
-plain_goes (rv.OpImm imm.Slliw rd rs1 i) s next behind h = tt
-plain_goes (rv.OpImm imm.Srliw rd rs1 i) s next behind h = tt
-plain_goes (rv.OpImm imm.Sraiw rd rs1 i) s next behind h = tt
-plain_goes (rv.Op op rd rs1 rs2) s next behind h = tt
+plain_goes (rv.OpImm op rd rs1 i) s next behind h = h refl
+plain_goes (rv.Op op rd rs1 rs2) s next behind h = h refl
 plain_goes rv.Fence s next behind h = h refl
 plain_goes rv.Trap s next behind h = tt
+
+branch_goes : (b : Bool) (target : ℕ) (s : State) (next behind : CodePlace) → next ≡ behind → GoesOn {Target = ℕ} {End = End} next behind (if b then Jump target s else Next s)
+branch_goes true target s next behind e = tt
+branch_goes false target s next behind e = e
 
 named_goes : (host : Host) (o : Option ℕ) (s : State) (next behind : CodePlace) → GoesOn next behind (to_named (rules host) o s)
 named_goes host None s next behind = tt
@@ -67,7 +59,7 @@ by_goes host false o s next behind = named_goes host o s next behind
 
 goes_on : (host : Host) (table : List ℕ) (op : Operation ℕ) (s : State) (next behind : CodePlace) → (op_goes_on op ≡ true → next ≡ behind) → GoesOn next behind (op_does host table op s)
 goes_on host table (Plain op) s next behind h = plain_goes op s next behind h
-goes_on host table (Branch cond rs1 rs2 target) s next behind h = tt
+goes_on host table (Branch cond rs1 rs2 target) s next behind h = branch_goes (holds (of_cond cond) (value s rs1) (value s rs2)) target s next behind (h refl)
 goes_on host table (Jal rd link target) s next behind h = tt
 goes_on host table (Jalr rd rs1 i link) s next behind h = by_goes host _ _ (with_value s rd link) next behind
 goes_on host table (Pair temp rd link target) s next behind h = tt

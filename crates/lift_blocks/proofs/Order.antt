@@ -1,6 +1,6 @@
 -- What stands behind an operation that goes on is the next in code order.
-use Rattle.std.proofs.Common.{◌≡◌, ℕ, zero, suc, ◌+◌, ◌*◌, ◌/◌, ◌%◌, ◌≤◌, ◌<◌, Bool, true, false, List, [], ◌∷◌, ◌++◌, length, Option, Some, None, refl, sym, ap, ◌∙◌, arith, inl, inr, ◌⊎◌, ⊎_elim}
-use Rattle.std.specs.Prelude.{slice_get, nat_eq, nat_le, cond, ◌||◌, ◌&&◌}
+use Rattle.std.proofs.Common.{◌≡◌, ℕ, zero, suc, ◌+◌, ◌*◌, ◌/◌, ◌<◌, Bool, true, false, List, [], ◌∷◌, ◌++◌, length, Option, Some, None, refl, ap, arith}
+use Rattle.std.specs.Prelude.{slice_get, nat_eq, nat_le, cond, ◌||◌}
 use Rattle.std.specs.List.{filter, filter_map, list_any, cons_option}
 use Rattle.std.proofs.Common.{eq-eqb}
 use Rattle.std.proofs.lemmas.Bool.{lt-leb}
@@ -8,7 +8,7 @@ use Rattle.rv_decode.specs.declared.ops.RvOp.{RvOp}
 use Rattle.rv_decode.specs.declared.ops.RvOp.TheVariants as rv
 use Rattle.symbols.specs.Wanted.{Given}
 use Rattle.relocs.specs.Places.{CodePlace, Code, Stub, Nowhere, sections_of, code_at, places_from, section_places, object_places, objects_places, all_places, same_place, has, next_place}
-use Rattle.relocs.specs.Words.{standing, raw_in, raw_at, is_code_offset}
+use Rattle.relocs.specs.Words.{standing, raw_at, is_code_offset}
 use Rattle.lift_blocks.specs.Listed.{some_if, can_go_on, onward_places, aimed_places, is_emitted, code_places}
 
 same_self : (n : ℕ) → nat_eq n n ≡ true

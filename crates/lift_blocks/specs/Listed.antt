@@ -3,6 +3,8 @@ use Rattle.std.specs.Prelude.{◌≡◌, ℕ, ◌<◌, List, [], ◌∷◌, ◌+
 use Rattle.std.specs.List.{filter, filter_map}
 use Rattle.rv_decode.specs.declared.ops.RvOp.{RvOp}
 use Rattle.rv_decode.specs.declared.ops.RvOp.TheVariants.{Lui, Auipc, Jal, Jalr, Branch, Load, Store, OpImm, Op, Fence, Trap}
+use Rattle.elf_objects.specs.declared.parts.SymbolIndex.{SymbolIndex}
+use Rattle.elf_objects.specs.declared.parts.SymbolIndex.TheVariants as index
 use Rattle.symbols.specs.Wanted.{Given}
 use Rattle.symbols.specs.Resolution.{Definition, definition_of}
 use Rattle.relocs.specs.Places.{CodePlace, Code, Stub, Nowhere, code_at, all_places, has, next_place}
@@ -10,10 +12,17 @@ use Rattle.relocs.specs.Words.{raw_at}
 use Rattle.relocs.specs.AddressMap.{needed_places}
 use Rattle.lift_blocks.specs.Operations.{Operation, rename, away, operation_at}
 
+-- the place of a symbol that is defined in a section
+abbrev pub place_in_section : ℕ → SymbolIndex → ℕ → CodePlace
+place_in_section object index.Undefined offset = Nowhere
+place_in_section object index.Absolute offset = Nowhere
+place_in_section object index.Common offset = Nowhere
+place_in_section object (index.Section section) offset = Code object section offset
+
 -- the place of an entry
 abbrev pub place_of : Option Definition → CodePlace
 place_of None = Nowhere
-place_of (Some d) = Code d.object d.section d.offset
+place_of (Some d) = place_in_section d.object d.symbol.index d.symbol.value
 
 abbrev pub entry_places : Given → List CodePlace
 entry_places given = map (λ name. place_of (definition_of given name)) given.wanted.entries

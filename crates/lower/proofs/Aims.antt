@@ -3,7 +3,6 @@ use Rattle.std.proofs.Common.{◌≡◌, ℕ, zero, suc, ◌+◌, ◌/◌, ◌%�
 use Rattle.std.specs.Prelude.{slice_get, nat_eq, if◌then◌else◌}
 use Rattle.std.specs.List.{AllByRecursion}
 use Rattle.numbers.specs.Words.{word_of}
-use Rattle.rv_decode.specs.declared.ops.AluImm.TheVariants.{Addi}
 use Rattle.rv_decode.specs.declared.ops.RvOp.{RvOp}
 use Rattle.rv_decode.specs.declared.ops.RvOp.TheVariants as rv
 use Rattle.runs.specs.Machine.{Outcome, Next, Jump, Call, Ends, and_then, does}
@@ -18,7 +17,7 @@ use Rattle.lift_blocks.specs.Listed.{Lifted}
 use Rattle.lower.specs.Cutting.{Aimed, piece_of, pieces, instr_does, instr_places}
 use Rattle.lower.specs.Laws.{LoweredIsCut}
 use Rattle.lower.proofs.Lists.{all_at, from_map, IsBlockOf}
-use Rattle.lower.proofs.Built.{IsPlainOp, IsBuilt}
+use Rattle.lower.proofs.Built.{IsBuilt}
 use Rattle.lower.proofs.Plain.{blocks_are_built}
 use Rattle.lower.proofs.Begin.{needed_begin}
 use Rattle.lower.proofs.Carried.{block_is_carried}
@@ -51,14 +50,22 @@ module _ (host : Host) (lifted : Lifted) (begin : (i t : ℕ) → slice_get lift
       by_halt false = by_even (nat_eq (number % 2) 0)
 
   -- what is no jump leads nowhere
-  plain_is_aimed : (op : RvOp) (s : State) → IsPlainOp op → IsAimed (plain_does op s)
-  plain_is_aimed (rv.OpImm Addi rd rs1 imm) s h = tt
-  plain_is_aimed rv.Trap s h = tt
-  plain_is_aimed op s h = absurd h
+  plain_is_aimed : (op : RvOp) (s : State) → IsAimed (plain_does op s)
+  plain_is_aimed (rv.Lui rd v) s = tt
+  plain_is_aimed (rv.Auipc rd v) s = tt
+  plain_is_aimed (rv.Jal rd offset) s = tt
+  plain_is_aimed (rv.Jalr rd rs1 imm) s = tt
+  plain_is_aimed (rv.Branch cond rs1 rs2 offset) s = tt
+  plain_is_aimed (rv.Load width rd rs1 imm) s = tt
+  plain_is_aimed (rv.Store width rs1 rs2 imm) s = tt
+  plain_is_aimed (rv.OpImm op rd rs1 imm) s = tt
+  plain_is_aimed (rv.Op op rd rs1 rs2) s = tt
+  plain_is_aimed rv.Fence s = tt
+  plain_is_aimed rv.Trap s = tt
 
   -- each jump of an operation leads to the beginning of a block
   op_is_aimed : (op : Operation ℕ) (s : State) → IsBuilt op → IsAimed (op_does host lifted.needed op s)
-  op_is_aimed (Plain op) s h = plain_is_aimed op s h
+  op_is_aimed (Plain op) s h = plain_is_aimed op s
   op_is_aimed (Jalr rd rs1 imm link) s h = jump_is_aimed ((value s rs1 + word_of imm) % 2 ^ 32) (with_value s rd link)
   op_is_aimed op s h = absurd h
 

@@ -1,6 +1,9 @@
 pub mod Lists
 pub mod Built
+pub mod Rows
 pub mod Effects
+pub mod Alone
+pub mod Encodable
 pub mod Instructions
 pub mod Same
 pub mod Plain

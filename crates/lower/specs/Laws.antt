@@ -1,17 +1,47 @@
 -- The laws of lowering that the link rests on.
-use Rattle.std.specs.Prelude.{◌≡◌, ℕ, ◌<◌, length, map, Some, slice_get}
+use Rattle.std.specs.Prelude.{◌≡◌, ℕ, ◌<◌, List, length, map, Some, slice_get}
+use Rattle.rv_decode.specs.declared.ops.RvOp.{RvOp}
+use Rattle.rv_decode.specs.declared.ops.RvOp.TheVariants as rv
+use Rattle.rv_decode.specs.Operations.{IsOp}
+use Rattle.runs.specs.Machine.{Outcome, does}
 use Rattle.runs.specs.Blocks.{block_of}
-use Rattle.runs.specs.Pieces.{Cut, GoodTurn, all_ops, all_instrs, op_place, instr_place}
+use Rattle.runs.specs.Pieces.{Cut, GoodTurn, Lowers, all_ops, all_instrs, op_place, instr_place}
 use Rattle.machine_state.specs.State.{State, IsState}
-use Rattle.machine_state.specs.Ends.{Host, rules}
+use Rattle.machine_state.specs.Ends.{End, Host, rules}
 use Rattle.symbols.specs.Wanted.{Given}
-use Rattle.lift_blocks.specs.Step.{op_does}
+use Rattle.lift_blocks.specs.Operations.{Plain}
+use Rattle.lift_blocks.specs.Step.{plain_does, op_does}
 use Rattle.lift_blocks.specs.Listed.{Lifted, IsLifted}
 use Rattle.jump_table.specs.Assembly.{instrs_of, first_of}
 use Rattle.jump_table.specs.Laws.{IsPlain}
+use Rattle.pvm_ops.specs.declared.instr.Instr.{Instr}
 use Rattle.pvm_ops.specs.BlockList.{Block}
+use Rattle.pvm_machine.specs.Effect.{effect}
+use Rattle.lower.specs.Plain.{IsLowerable, IsPlainOp}
 use Rattle.lower.specs.Lowering.{lowered_blocks}
-use Rattle.lower.specs.Cutting.{pieces, instr_does, instr_places}
+use Rattle.lower.specs.Cutting.{aimed_op, pieces, instr_does, instr_places}
+
+-- the operation of a word can be lowered alone, unless it is a jump or a branch
+abbrev pub IsLowerableUnlessJump : RvOp → Type 0
+IsLowerableUnlessJump (rv.Jal rd offset) = Unit {0}
+IsLowerableUnlessJump (rv.Jalr rd rs1 imm) = Unit {0}
+IsLowerableUnlessJump (rv.Branch cond rs1 rs2 offset) = Unit {0}
+IsLowerableUnlessJump op = IsLowerable op
+
+abbrev pub WordsAreLowerable : Type 0
+WordsAreLowerable = (op : RvOp) → IsOp op → IsLowerableUnlessJump op
+
+-- from every good state these instructions lead where the operation leads
+abbrev pub HasEffect : RvOp → List Instr → Type 0
+HasEffect op is =
+    (host : Host) (needed : List ℕ) (s : State) → IsState s
+    → ◌≡◌ {A = Outcome ℕ State End} (does (effect host needed 0) is s) (plain_does op s)
+
+-- The instructions of an operation that accesses no memory do what it does, are three at most, and keep the state good.
+abbrev pub OperationsAreLowered : Type 0
+OperationsAreLowered =
+    (host : Host) (needed : List ℕ) (op : RvOp) → IsPlainOp op
+    → Lowers (op_does host needed) (instr_does host needed) IsState aimed_op (Plain op)
 
 -- Each block's instructions do what its operations do, at most four begun for each, and jumps lead to blocks: for any
 -- host that answers with 13 registers of 64 bits.

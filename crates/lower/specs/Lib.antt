@@ -1,4 +1,5 @@
 pub mod Instructions
+pub mod Plain
 pub mod Lowering
 pub mod Cutting
 pub mod Laws

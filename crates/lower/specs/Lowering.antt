@@ -2,7 +2,6 @@
 use Rattle.std.specs.Prelude.{ℕ, List, [], ◌∷◌, ◌++◌, Bool, true, false, Option, Some, None, map}
 use Rattle.numbers.specs.Words.{word_of}
 use Rattle.rv_decode.specs.declared.ops.Reg.TheVariants.{Zero, R}
-use Rattle.rv_decode.specs.declared.ops.AluImm.TheVariants.{Addi}
 use Rattle.rv_decode.specs.declared.ops.RvOp.TheVariants as rv
 use Rattle.runs.specs.Blocks.{blocks, block_of}
 use Rattle.runs.specs.Pieces.{lowered}
@@ -10,16 +9,13 @@ use Rattle.lift_blocks.specs.Operations.{Operation, Plain, Branch, Jal, Jalr, Pa
 use Rattle.lift_blocks.specs.Listed.{Lifted}
 use Rattle.pvm_ops.specs.declared.instr.Instr.{Instr}
 use Rattle.pvm_ops.specs.BlockList.{Block, BlockList}
-use Rattle.pvm_ops.specs.Fetch.{trap}
-use Rattle.lower.specs.Instructions.{fallthrough, jump_ind, load_imm, add_imm_64}
+use Rattle.lower.specs.Instructions.{fallthrough, jump_ind}
+use Rattle.lower.specs.Plain.{lower_plain}
 
--- The instructions of an operation, with 0 for an offset. A write to x0 needs none. So far the words have addi, ret and
--- the section's end, and the other operations have no instructions yet.
+-- The instructions of an operation, with 0 for an offset. So far the jumps have none but ret, which is the jalr of a
+-- register without a link.
 abbrev pub lower_op : Operation ℕ → List Instr
-lower_op (Plain rv.Trap) = trap ∷ []
-lower_op (Plain (rv.OpImm Addi Zero rs1 imm)) = []
-lower_op (Plain (rv.OpImm Addi (R d) Zero imm)) = load_imm d (word_of imm) ∷ []
-lower_op (Plain (rv.OpImm Addi (R d) (R a) imm)) = add_imm_64 d a (word_of imm) ∷ []
+lower_op (Plain op) = lower_plain op
 lower_op (Jalr Zero (R a) imm link) = jump_ind a (word_of imm) ∷ []
 lower_op op = []
 

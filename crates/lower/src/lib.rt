@@ -1,9 +1,24 @@
-//! Lowering: the instructions of each block of operations.
+//! Lowering: the instructions of operations, and of each block of them.
 //!
-//! So far these are definitions, with the law that a block's instructions do what its operations do.
+//! So far an operation that is no jump and no branch is lowered by itself, and blocks are definitions, with the law
+//! that a block's instructions do what its operations do.
 #![tactic(auto)]
 
-ghost use Rattle.lower.specs.Laws.{LoweredIsCut, BlocksAreAll, EntriesBegin, BlocksStand, SameInstrs, SamePlaces, LoweredIsPlain};
+ghost use Rattle.lower.specs.Laws.{WordsAreLowerable, OperationsAreLowered, LoweredIsCut, BlocksAreAll, EntriesBegin, BlocksStand, SameInstrs, SamePlaces, LoweredIsPlain};
+
+mod forms;
+mod operations;
+mod tables;
+
+pub use forms::Three;
+pub use operations::lower_operation;
+
+/// A word's operation can be lowered by itself, unless it is a jump or a branch, and the instructions of an operation
+/// that accesses no memory do what it does.
+pub fn operations_are_carried_out()
+    ensures words { WordsAreLowerable }
+    ensures effects { OperationsAreLowered }
+{}
 
 /// What the link rests on: each block is carried out, together they are all operations, entries begin blocks, and the
 /// list of blocks has the same instructions in the same places and can be placed.
@@ -16,3 +31,6 @@ pub fn blocks_are_carried_out()
     ensures places { SamePlaces }
     ensures plain { LoweredIsPlain }
 {}
+
+#[cfg(test)]
+mod tests;

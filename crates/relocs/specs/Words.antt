@@ -1,9 +1,11 @@
 -- The word that stands at a place.
-use Rattle.std.specs.Prelude.{ℕ, ◌+◌, ◌%◌, List, take, drop, length, Bool, Option, Some, None, Result, Ok, Err, ◌&&◌, nat_eq, nat_le, if◌then◌else◌}
+use Rattle.std.specs.Prelude.{ℕ, zero, ◌+◌, ◌%◌, pos, List, take, drop, length, Bool, true, false, Option, Some, None, Result, Ok, Err, ◌&&◌, nat_eq, nat_le, if◌then◌else◌}
 use Rattle.numbers.specs.Bytes.{number_of}
+use Rattle.rv_decode.specs.declared.ops.Reg.TheVariants.{Zero, R}
 use Rattle.rv_decode.specs.declared.ops.RvOp.{RvOp}
-use Rattle.rv_decode.specs.declared.ops.RvOp.TheVariants.{Trap}
+use Rattle.rv_decode.specs.declared.ops.RvOp.TheVariants.{Lui, Jalr, OpImm, Op, Fence, Trap}
 use Rattle.rv_decode.specs.declared.ops.WordFault.{WordFault}
+use Rattle.rv_decode.specs.declared.ops.WordFault.TheVariants.{BadWord}
 use Rattle.rv_decode.specs.Operations.{operation}
 use Rattle.symbols.specs.Wanted.{Given}
 use Rattle.relocs.specs.Places.{CodePlace, Code, Stub, Nowhere, code_at}
@@ -11,6 +13,25 @@ use Rattle.relocs.specs.Places.{CodePlace, Code, Stub, Nowhere, code_at}
 -- the four bytes at an offset, as a number
 abbrev pub word_at : List ℕ → ℕ → ℕ
 word_at bytes offset = number_of (take 4 (drop offset bytes))
+
+-- The operations that are linked so far: those on registers and immediates, lui, fence and the traps, and ret, which is
+-- jalr x0, 0(x1).
+abbrev pub is_linked : RvOp → Bool
+is_linked (Lui rd value) = true
+is_linked (OpImm op rd rs1 imm) = true
+is_linked (Op op rd rs1 rs2) = true
+is_linked Fence = true
+is_linked Trap = true
+is_linked (Jalr Zero (R zero) (pos zero)) = true
+is_linked op = false
+
+-- the operation of a word that is linked so far, and every other word as a bad one
+abbrev pub linked : Result RvOp WordFault → Result RvOp WordFault
+linked (Ok op) = if is_linked op then Ok op else Err BadWord
+linked (Err fault) = Err BadWord
+
+unfoldable pub linked_operation : ℕ → Result RvOp WordFault
+linked_operation word = linked (operation word)
 
 -- the operation, or nothing where the word is faulty
 abbrev pub decoded : Result RvOp WordFault → Option RvOp
@@ -21,7 +42,7 @@ decoded (Err fault) = None
 unfoldable pub standing : List ℕ → ℕ → Option RvOp
 standing bytes offset =
     if nat_eq offset (length bytes) then Some Trap
-    else (if nat_le (offset + 4) (length bytes) then decoded (operation (word_at bytes offset))
+    else (if nat_le (offset + 4) (length bytes) then decoded (linked_operation (word_at bytes offset))
     else None)
 
 -- an offset that can be a place
