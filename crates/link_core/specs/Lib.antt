@@ -2,3 +2,12 @@ pub mod Runs
 pub mod Agrees
 pub mod Linked
 pub mod Laws
+pub mod Straight
+pub mod Unbuilt
+pub mod Assembling
+pub mod LinkFaults
+pub mod Parts
+pub mod Sites
+pub mod MapText
+pub mod Faults
+pub mod WordFaults

@@ -7,6 +7,7 @@ use Rattle.pvm_ops.specs.BlockList.{BlockList}
 use Rattle.jump_table.specs.Assembly.{code_of, table_of, width_of}
 use Rattle.blob_codec.specs.Grammar.{Program, Container, IsContainer, container_bytes}
 use Rattle.link_core.specs.Agrees.{Agrees}
+use Rattle.link_core.specs.MapText.{map_text}
 
 -- the program of a list of blocks
 abbrev pub program_of : BlockList → Program
@@ -25,9 +26,15 @@ pub record IsLinked (given : Given) (c : Container) : Type 0 where
   pub fits : IsContainer c
   pub small : length c.program.code.bytes ≤ 2 ^ 25
 
--- these bytes are the linked program's container, and it means what the objects mean
-pub record HoldsLinked (given : Given) (bytes : List ℕ) : Type 0 where
+-- a linked program as it is handed on: the bytes of its container, and its map as text
+pub record Linked : Type 0 where
+  pub container : List ℕ
+  pub map : List ℕ
+
+-- The bytes are the linked program's container, which means what the objects mean, and the text is its map.
+pub record HoldsLinked (given : Given) (linked : Linked) : Type 0 where
   pub container : Container
-  pub spelled : bytes ≡ container_bytes container
-  pub linked : IsLinked given container
+  pub spelled : linked.container ≡ container_bytes container
+  pub is_linked : IsLinked given container
   pub agrees : Agrees given container
+  pub map_is : linked.map ≡ map_text given is_linked.lifted

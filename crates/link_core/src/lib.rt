@@ -1,12 +1,29 @@
-//! The link as a whole: both machines' runs, what it means that they agree, and what the linked program is.
+//! The link as a whole: the files of objects are linked into a program, or refused with their first fault.
 //!
-//! So far these are definitions, with the law that a linked program agrees with its objects.
+//! What the linked program is says `specs/Linked.antt`, and `specs/Agrees.antt` that it means what the objects mean, by both
+//! machines' runs of `specs/Runs.antt`. The faults stand in their order in `specs/Faults.antt`. So far code is linked that
+//! goes straight on, section after section: `specs/Straight.antt` says what its instructions are.
 #![tactic(auto)]
 
 ghost use Rattle.link_core.specs.Laws.{LinkedAgrees};
 
+mod assembly;
+mod bundle;
+mod input;
+mod link_fault;
+mod linker;
+mod lowering;
+mod map_text;
+mod straight;
+mod unbuilt;
+mod word_faults;
+mod words;
+
+pub use bundle::Bundle;
 use jump_table::code_is_placed;
 use lift_blocks::source_lock;
+pub use link_fault::LinkFault;
+pub use linker::{CODE_BYTES_TOO_LARGE, CODE_TOO_LARGE, Linked, link};
 use lower::blocks_are_carried_out;
 use machine_state::start_is_good;
 use pvm_machine::effects_keep_targets;
@@ -21,3 +38,6 @@ pub fn linked_agrees()
     effects_keep_targets();
     start_is_good();
 }
+
+#[cfg(test)]
+mod tests;

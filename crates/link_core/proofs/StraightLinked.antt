@@ -1,0 +1,35 @@
+-- Straight code is the linked program of its objects.
+use Rattle.std.proofs.Common.{◌≡◌, ◌^◌, ◌<◌, ◌≤◌, [], length, sym, ap}
+use Rattle.std.specs.List.{AllByRecursion}
+use Rattle.symbols.specs.Wanted.{Given}
+use Rattle.relocs.specs.Places.{all_places}
+use Rattle.lift_blocks.specs.Listed.{entry_places}
+use Rattle.pvm_ops.specs.Listing.{Listing}
+use Rattle.jump_table.specs.Assembly.{code_of}
+use Rattle.lower.specs.Lowering.{lowered_blocks}
+use Rattle.lower.specs.Laws.{EntriesBegin}
+use Rattle.blob_codec.specs.Grammar.{Container}
+use Rattle.link_core.specs.Linked.{IsLinked, container_of}
+use Rattle.link_core.specs.Straight.{lifted_of, straight_instrs, IsStartOf}
+use Rattle.link_core.proofs.StraightLifted.{IsBuiltAt, is_lifted}
+use Rattle.link_core.proofs.StraightPlaced.{code_instrs_are}
+use Rattle.link_core.proofs.StraightFits.{listing_of, plain_container, fits}
+
+module _ (entries_begin : EntriesBegin) (given : Given) (built : AllByRecursion (IsBuiltAt given) (all_places given)) (starts_of : AllByRecursion (IsStartOf given) (entry_places given)) where
+  code_is : code_of (lowered_blocks (lifted_of given)) ≡ listing_of (straight_instrs given)
+  unfolding code_of
+  code_is = ap listing_of (code_instrs_are entries_begin given built starts_of)
+
+  pub container_is : plain_container given.wanted.stack (straight_instrs given) ≡ container_of given (lifted_of given)
+  container_is =
+      let container : Listing → Container = λ code. record { read_only = []; writable = []; zero_pages = 0; stack = given.wanted.stack; program = record { table = []; width = 1; code = code } } in
+      ap container (sym code_is)
+
+  unfoldable pub straight_is_linked : given.wanted.stack < 2 ^ 24 → length (listing_of (straight_instrs given)).bytes ≤ 2 ^ 25 → IsLinked given (plain_container given.wanted.stack (straight_instrs given))
+  straight_is_linked stack few = record {
+    lifted = lifted_of given;
+    is_lifted = is_lifted given built starts_of;
+    container_is = container_is;
+    fits = fits given.wanted.stack (straight_instrs given) stack few;
+    small = few;
+  }

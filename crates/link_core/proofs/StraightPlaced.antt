@@ -1,0 +1,153 @@
+-- The code of straight code: the entries' jumps, and the instructions of the operations in code order.
+use Rattle.std.proofs.Common.{◌≡◌, ℕ, zero, suc, ◌+◌, ◌*◌, Bool, true, false, List, [], ◌∷◌, ◌++◌, length, take, map, Some, None, refl, sym, ap, ◌∙◌, arith, nat_eq}
+use Rattle.std.specs.Prelude.{slice_get, ◌||◌, ◌&&◌}
+use Rattle.std.specs.List.{AllByRecursion}
+use Rattle.std.proofs.lemmas.Bool.{ne_eqb}
+use Rattle.std.proofs.lemmas.List.{length-map, take-map}
+use Rattle.runs.specs.Joined.{joined, position}
+use Rattle.runs.specs.Blocks.{blocks, block_of}
+use Rattle.runs.specs.Pieces.{lowered}
+use Rattle.runs.proofs.Blocks.{blocks_joined}
+use Rattle.symbols.specs.Wanted.{Given}
+use Rattle.relocs.specs.Places.{CodePlace, Code, Stub, Nowhere, same_place, has, next_place, all_places}
+use Rattle.relocs.specs.Words.{raw_at}
+use Rattle.lift_blocks.specs.Operations.{Operation}
+use Rattle.lift_blocks.specs.Listed.{entry_places, can_go_on, some_if, aimed_places, starts, code_places, ends_block}
+use Rattle.lift_blocks.proofs.Order.{next_listed, place_self}
+use Rattle.pvm_ops.specs.BlockList.{BlockList}
+use Rattle.pvm_ops.specs.Spelling.{spelling}
+use Rattle.jump_table.specs.Assembly.{entry_len, offset_len, offset, spelled, instrs_of, first_of, start_of, entry_jumps, placed_blocks, code_instrs}
+use Rattle.lower.specs.Lowering.{lower_op, aim_of, block_instrs, lower_block, lowered_blocks}
+use Rattle.lower.specs.Cutting.{piece_of}
+use Rattle.lower.specs.Laws.{EntriesBegin}
+use Rattle.link_core.specs.Straight.{straight, ops_at, instrs_at, size, first_number, start_of_place, lifted_of, entry_position, entry_positions, jumps_to, straight_instrs, IsStartOf}
+use Rattle.link_core.proofs.StraightPlaces.{aimed_are}
+use Rattle.link_core.proofs.StraightStanding.{straight_there}
+use Rattle.link_core.proofs.StraightLifted.{IsBuiltAt, before_place, at_index, is_entry, is_lifted}
+use Rattle.link_core.proofs.StraightBlocks.{CutAtEnds, Ended, cut_at_ends, no_aims, all_blocks, placed_plain, blocks_ended, joined_lowered, all_take, position_is, take_position}
+
+-- the place behind another is no start of a section
+pub behind_start : (given : Given) (ps : List CodePlace) (o s offset : ℕ) → AllByRecursion (IsStartOf given) ps → has ps (Code o s (offset + 4)) ≡ false
+behind_start given [] o s offset all = refl
+behind_start given (p ∷ ps) o s offset all =
+    let start = all.0 in
+    let other : nat_eq (offset + 4) 0 ≡ false = ne_eqb (offset + 4) 0 (λ e. absurd (omega (arith, e))) in
+    rw (start.is, other, behind_start given ps o s offset all.1) (never (nat_eq o start.object && nat_eq s start.section))
+  where
+    never : (b : Bool) → ((b && false) || false) ≡ false
+    never true = refl
+    never false = refl
+
+unaimed : (given : Given) → AllByRecursion (IsStartOf given) (entry_places given) → (p : CodePlace) → can_go_on (raw_at given p) ≡ true → has (aimed_places given) (next_place given p) ≡ false
+unaimed given all (Code o s offset) h = ap (λ ps. has ps (Code o s (offset + 4))) (aimed_are given (straight_there given)) ∙ behind_start given (entry_places given) o s offset all
+unaimed given all (Stub n at) h = absurd cc
+unaimed given all Nowhere h = absurd cc
+
+follow : (given : Given) (q : ℕ) (p : CodePlace) → slice_get (code_places given) q ≡ Some p → can_go_on (raw_at given p) ≡ true → slice_get (code_places given) (suc q) ≡ Some (next_place given p)
+follow given q p e h = (let onward : some_if (can_go_on (raw_at given p)) (next_place given p) ≡ Some (next_place given p) = rw h refl in next_listed given q p (next_place given p) e onward)
+
+length-starts : (given : Given) (ended : Bool) (ps : List CodePlace) → length (starts given ended ps) ≡ length ps
+length-starts given ended [] = refl
+length-starts given ended (p ∷ ps) = ap suc (length-starts given (ends_block (raw_at given p)) ps)
+
+-- pieces have the operations of their blocks
+pieces_ops : (ws : List (List (Operation ℕ))) → map (λ p. p.ops) (map piece_of ws) ≡ ws
+pieces_ops [] = refl
+pieces_ops (w ∷ ws) = ap (λ l. w ∷ l) (pieces_ops ws)
+
+-- blocks have their instructions
+blocks_instrs : (begins : List Bool) (ws : List (List (Operation ℕ))) → map (λ b. b.instrs) (map (lower_block begins) ws) ≡ map block_instrs ws
+blocks_instrs begins [] = refl
+blocks_instrs begins (w ∷ ws) = ap (λ l. block_instrs w ∷ l) (blocks_instrs begins ws)
+
+module _ (entries_begin : EntriesBegin) (given : Given) (built : AllByRecursion (IsBuiltAt given) (all_places given)) (starts_of : AllByRecursion (IsStartOf given) (entry_places given)) where
+  abbrev places : List CodePlace
+  places = code_places given
+
+  abbrev ops : List (Operation ℕ)
+  ops = ops_at given (code_places given)
+
+  abbrev begins : List Bool
+  begins = starts given true (code_places given)
+
+  abbrev list : BlockList
+  list = lowered_blocks (lifted_of given)
+
+  abbrev ws : List (List (Operation ℕ))
+  ws = blocks (starts given true (code_places given)) (ops_at given (code_places given))
+
+  cut : CutAtEnds (starts given true (code_places given)) (ops_at given (code_places given))
+  cut = cut_at_ends given (straight_there given) (unaimed given starts_of) true (code_places given) (follow given)
+
+  ended : AllByRecursion Ended ws
+  ended = blocks_ended (starts given true (code_places given)) (ops_at given (code_places given)) cut
+
+  joined_ops : joined ws ≡ ops
+  joined_ops = blocks_joined (starts given true (code_places given)) (ops_at given (code_places given)) (length-starts given true (code_places given) ∙ sym (length-map (code_places given) (λ p. straight (raw_at given p))))
+
+  instrs_are : instrs_of list ≡ joined (map block_instrs ws)
+  instrs_are = ap joined (blocks_instrs (starts given true (code_places given)) ws)
+
+  -- a block that begins with an operation begins behind the instructions of those before
+  start_is : (t : ℕ) → position ws (block_of begins t) ≡ t → start_of list (block_of begins t) ≡ entry_len * length list.entries + size (lowered lower_op (take t ops))
+  start_is t there =
+      let k = block_of (starts given true (code_places given)) t in
+      let first : first_of list k ≡ position (map block_instrs ws) k = ap (λ l. position l k) (blocks_instrs (starts given true (code_places given)) ws) in
+      let front : take (position (map block_instrs ws) k) (joined (map block_instrs ws)) ≡ lowered lower_op (take t ops) =
+      take_position (map block_instrs ws) k ∙ ap joined (take-map block_instrs k ws) ∙ joined_lowered (take k ws) (all_take Ended k ws ended)
+      ∙ ap (lowered lower_op) (sym (take_position ws k) ∙ ap (λ n. take n (joined ws)) there ∙ ap (take t) joined_ops) in
+      let bytes : position (spelled (joined (map block_instrs ws))) (position (map block_instrs ws) k) ≡ size (lowered lower_op (take t ops)) =
+      position_is (spelled (joined (map block_instrs ws))) (position (map block_instrs ws) k)
+      ∙ ap (λ l. length (joined l)) (take-map (λ i. spelling i offset_len) (position (map block_instrs ws) k) (joined (map block_instrs ws)))
+      ∙ ap size front in
+      ap (λ n. entry_len * length list.entries + position (spelled (instrs_of list)) n) first
+      ∙ ap (λ is. entry_len * length list.entries + position (spelled is) (position (map block_instrs ws) k)) instrs_are
+      ∙ ap (λ n. entry_len * length list.entries + n) bytes
+
+  -- the block of an entry
+  pub entry_start : (entry : ℕ) (p : CodePlace) → slice_get (entry_places given) entry ≡ Some p → has (entry_places given) p ≡ true → IsStartOf given p → start_of list (block_of begins (first_number given p)) ≡ entry_position given p
+  entry_start entry p e among start =
+      let lifted = is_lifted given built starts_of in
+      let t = first_number given p in
+      let there = is_entry given p among start in
+      let begun : position ws (block_of begins t) ≡ t = ap (λ l. position l (block_of begins t)) (sym (pieces_ops ws)) ∙ entries_begin given (lifted_of given) lifted entry t (number_at (entry_places given) entry p e) in
+      let count : length list.entries ≡ length (entry_places given) = length-map (map (first_number given) (entry_places given)) (block_of (starts given true (code_places given))) ∙ length-map (entry_places given) (first_number given) in
+      start_is t begun
+      ∙ ap (λ n. entry_len * n + size (lowered lower_op (take t ops))) count
+      ∙ ap (λ l. entry_len * length (entry_places given) + size (lowered lower_op l)) (take-map (λ q. straight (raw_at given q)) t (code_places given) ∙ ap (ops_at given) there.front)
+      ∙ ap (λ n. entry_len * length (entry_places given) + n) (before_is p start)
+    where
+      number_at : (ps : List CodePlace) (entry : ℕ) (p : CodePlace) → slice_get ps entry ≡ Some p → slice_get (map (first_number given) ps) entry ≡ Some (first_number given p)
+      number_at [] entry p e = absurd cc
+      number_at (q ∷ ps) zero p e = (let same : q ≡ p = cc in rw same refl)
+      number_at (q ∷ ps) (suc entry) p e = number_at ps entry p e
+
+      before_is : (p : CodePlace) → IsStartOf given p → size (instrs_at given (before_place given p)) ≡ start_of_place given p
+      before_is (Code o s at) start = refl
+      before_is (Stub n at) start = (let e = start.is in absurd cc)
+      before_is Nowhere start = (let e = start.is in absurd cc)
+
+  jumps_are : (ps : List CodePlace) (from at : ℕ) → ((entry : ℕ) (p : CodePlace) → slice_get ps entry ≡ Some p → start_of list (block_of begins (first_number given p)) ≡ entry_position given p) → entry_jumps list at (map (block_of begins) (map (first_number given) ps)) ≡ jumps_to at (map (entry_position given) ps)
+  jumps_are [] from at each = refl
+  jumps_are (p ∷ ps) from at each = rw (each 0 p refl, jumps_are ps from (at + entry_len) (λ entry q e. each (suc entry) q e)) refl
+
+  -- all instructions of the code
+  pub code_instrs_are : code_instrs list ≡ straight_instrs given
+  code_instrs_are =
+      let jumps = jumps_are (entry_places given) 0 0 (λ entry p e. entry_start entry p e (among (entry_places given) entry p e) (start_at_entry (entry_places given) entry p e starts_of)) in
+      let rest : placed_blocks list 0 list.blocks ≡ instrs_at given (code_places given) =
+      placed_plain list (starts given true (code_places given)) 0 ws (all_blocks (λ x. aim_of x ≡ None) (starts given true (code_places given)) (ops_at given (code_places given)) (no_aims given (code_places given)))
+      ∙ joined_lowered ws ended ∙ ap (lowered lower_op) joined_ops in
+      ap (λ is. is ++ placed_blocks list 0 list.blocks) jumps ∙ ap (λ is. jumps_to 0 (entry_positions given) ++ is) rest
+    where
+      among : (ps : List CodePlace) (entry : ℕ) (p : CodePlace) → slice_get ps entry ≡ Some p → has ps p ≡ true
+      among [] entry p e = absurd cc
+      among (q ∷ ps) zero p e = (let same : q ≡ p = cc in rw (same, place_self p) refl)
+      among (q ∷ ps) (suc entry) p e = rw (among ps entry p e) (or_true (same_place p q))
+        where
+          or_true : (b : Bool) → (b || true) ≡ true
+          or_true true = refl
+          or_true false = refl
+
+      start_at_entry : (ps : List CodePlace) (entry : ℕ) (p : CodePlace) → slice_get ps entry ≡ Some p → AllByRecursion (IsStartOf given) ps → IsStartOf given p
+      start_at_entry ps entry p e all = at_index (IsStartOf given) ps entry p all e

@@ -1,0 +1,17 @@
+-- The faults of a phase as those of the link.
+use Rattle.elf_objects.specs.declared.fault.ObjectFault.{ObjectFault}
+use Rattle.elf_objects.specs.declared.fault.ObjectFault.TheVariants as object
+use Rattle.symbols.specs.declared.fault.SymbolFault.{SymbolFault}
+use Rattle.symbols.specs.declared.fault.SymbolFault.TheVariants as symbol
+use Rattle.link_core.specs.declared.link_fault.LinkFault.{LinkFault}
+use Rattle.link_core.specs.declared.link_fault.LinkFault.TheVariants.{Bad, Memory}
+
+-- an object's fault
+abbrev pub of_object : ObjectFault → LinkFault
+of_object (object.Bad fault) = Bad fault
+of_object object.Memory = Memory
+
+-- a fault of symbols and entries
+abbrev pub of_symbols : SymbolFault → LinkFault
+of_symbols (symbol.Bad fault) = Bad fault
+of_symbols symbol.Memory = Memory
