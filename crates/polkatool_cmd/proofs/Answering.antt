@@ -1,6 +1,5 @@
 -- What reads, writes and puts make of a command.
-use Rattle.std.proofs.Common.{◌≡◌, ℕ, zero, suc, ◌+◌, ◌-◌, ◌^◌, ◌<◌, List, [], ◌∷◌, length, Option, Some, None, Ok, Err, refl, ap, ◌∙◌, subst, inr, arith}
-use Rattle.std.proofs.lemmas.Bool.{lt-ltb}
+use Rattle.std.proofs.Common.{◌≡◌, ℕ, zero, suc, ◌+◌, ◌-◌, ◌<◌, List, [], ◌∷◌, length, Option, Some, None, Ok, Err, refl, ap, ◌∙◌, subst, inr, arith}
 use Rattle.outside.specs.Outside.{Files, AnswersRead}
 use Rattle.outside.specs.declared.folder.ReadFault.{ReadFault}
 use Rattle.outside.specs.declared.folder.ReadFault.TheVariants.{TooLarge}
@@ -14,17 +13,14 @@ use Rattle.pvm_machine.specs.declared.answers.Exit.{Exit}
 use Rattle.pvm_machine.specs.declared.answers.Exit.TheVariants as exit
 use Rattle.polkatool_cmd.specs.declared.answer.Answer.{Answer}
 use Rattle.polkatool_cmd.specs.declared.answer.Answer.TheVariants as answers
-use Rattle.polkatool_cmd.specs.Faults.{first_fault, too_large}
-use Rattle.polkatool_cmd.specs.Answers.{World, Holds, HasFault, HoldsRun, RunComesTo}
+use Rattle.polkatool_cmd.specs.Faults.{too_large}
+use Rattle.polkatool_cmd.specs.Answers.{HoldsRun, RunComesTo}
+use Rattle.polkatool_cmd.specs.World.{World, Holds, HasFault}
 use Rattle.polkatool_cmd.specs.Running.{Tells, end_of}
 
 long_file : (n : ℕ) → (file : List ℕ) × (length file ≡ n)
 long_file zero = ([], refl)
 long_file (suc n) = let rest = long_file n in (0 ∷ rest.0, omega (arith, rest.1))
-
--- an object's file that is too large for its read has that fault
-pub first_fault-long : (file : List ℕ) → 2 ^ 24 < length file → first_fault file ≡ Some too_large
-first_fault-long file long = rw (lt-ltb (2 ^ 24) (length file) long) refl
 
 -- a file that is too large for its read
 pub long-read :

@@ -11,7 +11,8 @@ use Rattle.polkatool_cmd.specs.declared.answer.Answer.TheVariants as answers
 use Rattle.polkatool_cmd.specs.Faults.{too_large}
 use Rattle.polkatool_cmd.specs.BlobFaults.{first_blob_fault}
 use Rattle.polkatool_cmd.specs.RunFaults.{run_fault_in}
-use Rattle.polkatool_cmd.specs.Answers.{World, HasFault, TextComesTo, RunComesTo}
+use Rattle.polkatool_cmd.specs.Answers.{TextComesTo, RunComesTo}
+use Rattle.polkatool_cmd.specs.World.{World, HasFault}
 use Rattle.polkatool_cmd.specs.Blobs.{HoldsTooLarge, FailsToRead}
 use Rattle.polkatool_cmd.proofs.Answering.{long-read}
 

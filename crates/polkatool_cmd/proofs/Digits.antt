@@ -4,7 +4,7 @@ use Rattle.std.proofs.lemmas.Bool.Decides.{nat_tests}
 use Rattle.std.proofs.lemmas.List.{drop_all}
 use Rattle.std.specs.Prelude.{nat_lt}
 use Rattle.std.specs.Char.{is_ascii_digit}
-use Rattle.polkatool_cmd.specs.Commands.{digits_behind, below}
+use Rattle.polkatool_cmd.specs.Values.{digits_behind, below}
 
 -- a digit more
 pub digits_behind-digit : (n b : ℕ) (bs : List ℕ) → is_ascii_digit b ≡ true → digits_behind n (b ∷ bs) ≡ digits_behind (10 * n + (b - 48)) bs

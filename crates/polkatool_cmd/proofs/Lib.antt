@@ -1,21 +1,11 @@
 mod Names
 mod Naming
+mod LinkItems
+mod Importing
+mod LastSign
 mod Data
 mod Digits
 mod Zeros
-mod Packing
-mod Placing
-mod Containers
-mod Objects
 mod Answering
+mod Reading
 mod Blobs
-pub mod StraightWords
-pub mod StraightOrder
-pub mod StraightBlocks
-pub mod StraightPlaced
-pub mod StraightEmitted
-pub mod StraightLifted
-pub mod StraightText
-pub mod StraightShort
-pub mod StraightFits
-pub mod StraightLinked

@@ -2,7 +2,7 @@
 use Rattle.std.proofs.Common.{◌≡◌, ℕ, ◌<◌, List, [], ◌∷◌, length, Bool, true, false, refl, arith}
 use Rattle.std.specs.Str.{is_utf8, IsUtf8}
 use Rattle.std.proofs.lemmas.Str.{IsUtf8-from_is_utf8, is_utf8-from_IsUtf8}
-use Rattle.polkatool_cmd.specs.Commands.{is_name}
+use Rattle.polkatool_cmd.specs.Values.{is_name}
 
 -- a word with bytes that are UTF-8 is a name
 pub is_name-text : (word : List ℕ) → 0 < length word → IsUtf8 word → is_name word ≡ true

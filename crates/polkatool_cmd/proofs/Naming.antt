@@ -1,6 +1,7 @@
 -- What the words of a run name, a word at a time.
 use Rattle.std.proofs.Common.{◌≡◌, ℕ, List, [], ◌∷◌, length, true, false, Option, Some, None, cond, refl, sym, ap, ◌∙◌, arith}
-use Rattle.polkatool_cmd.specs.Commands.{RunWords, begins_with_dash, with_option, with_file, run_words}
+use Rattle.polkatool_cmd.specs.Commands.{RunWords, with_option, with_file, run_words}
+use Rattle.polkatool_cmd.specs.Values.{begins_with_dash}
 
 -- no more words
 pub run_words-end : (named : Option RunWords) → run_words named [] ≡ named

@@ -1,7 +1,7 @@
 -- What a command comes to, and how that is told.
-use Rattle.std.specs.Prelude.{◌≡◌, ◌≤◌, ◌⊎◌, ℕ, List, [], Option, Some, None, Ok}
+use Rattle.std.specs.Prelude.{◌≡◌, ◌⊎◌, ℕ, List, [], Option, Some, None, Ok}
 use Rattle.std.specs.Io.KnownBytes.{Appends}
-use Rattle.outside.specs.Outside.{Files, Rose, Missing, AppendsFront, KeepsOthers, AnswersWrite}
+use Rattle.outside.specs.Outside.{Files, Rose, AppendsFront, KeepsOthers}
 use Rattle.elf_objects.specs.declared.fault.Fault.{Fault}
 use Rattle.runs.specs.Runs.{Paid}
 use Rattle.machine_state.specs.Ends.{Event, End}
@@ -10,87 +10,18 @@ use Rattle.blob_codec.specs.Reading.{container_of}
 use Rattle.disasm.specs.Disassembly.{disassembly}
 use Rattle.link_core.specs.Runs.{machine_run}
 use Rattle.polkatool_cmd.specs.Commands.{Command, Link, Run, Check, Disassemble}
-use Rattle.polkatool_cmd.specs.Faults.{first_fault, Links}
+use Rattle.polkatool_cmd.specs.World.{World, Stream, Holds, HasFault, FailedRead}
+use Rattle.polkatool_cmd.specs.LinkAnswers.{LinkComesTo}
 use Rattle.polkatool_cmd.specs.BlobFaults.{first_disassemble_fault}
 use Rattle.polkatool_cmd.specs.RunFaults.{first_run_fault}
 use Rattle.polkatool_cmd.specs.CheckFaults.{first_check_fault}
 use Rattle.polkatool_cmd.specs.Transcript.{transcript}
 use Rattle.polkatool_cmd.specs.Statuses.{status_of}
-use Rattle.polkatool_cmd.specs.Lines.{map_text, ok_text, usage_line, file_fault_line, memory_line, refused_line}
+use Rattle.polkatool_cmd.specs.Lines.{ok_text, usage_line, file_fault_line, memory_line, refused_line}
 use Rattle.polkatool_cmd.specs.declared.answer.Answer.{Answer}
 use Rattle.polkatool_cmd.specs.declared.answer.Answer.TheVariants as answers
 use Rattle.polkatool_cmd.specs.declared.status.Status.{Status}
 use Rattle.polkatool_cmd.specs.declared.status.Status.TheVariants as statuses
-
--- What the folder and out tell, and how many reads, writes and puts the outside has failed.
-pub record World : Type 0 where
-  pub files : Option Files
-  pub reads : ℕ
-  pub writes : ℕ
-  pub out : Option (List ℕ)
-  pub puts : ℕ
-
--- What a stream tells, out or err, and how many puts on it the outside has failed.
-pub record Stream : Type 0 where
-  pub text : Option (List ℕ)
-  pub puts : ℕ
-
--- the name holds these bytes, where files are told: as after a write that succeeded
-abbrev pub Holds : Option Files → List ℕ → List ℕ → Type 0
-Holds = AnswersWrite
-
--- the name holds a file, where files are told, and its first fault is this one, or it has none
-pub record HasFault (first_of : List ℕ → Option Fault) (files : Option Files) (name : List ℕ) (fault : Option Fault)
-    : Type 0 where
-  pub file : List ℕ
-  pub held : Holds files name file
-  pub first : first_of file ≡ fault
-
--- the output holds the container that the object is linked into, of which the name held the file before
-pub record HoldsLink (old new : Option Files) (output object : List ℕ) : Type 0 where
-  pub file : List ℕ
-  pub container : List ℕ
-  pub before : Holds old object file
-  pub links : Links file container
-  pub after : Holds new output container
-
--- The link was written and its map put; all else is as before.
-pub record HasLinked (output object : List ℕ) (old new : World) : Type 0 where
-  pub linked : HoldsLink old.files new.files output object
-  pub map : Appends old.out new.out map_text
-  pub others : new ≡ record old { files = new.files; out = new.out }
-
--- The name of the file to read is missing or its read failed; all else is as before.
-pub record FailedRead (name : List ℕ) (old new : World) : Type 0 where
-  pub later : old.reads ≤ new.reads
-  pub cause : Rose old.reads new.reads ⊎ Missing old.files name
-  pub others : new ≡ record old { reads = new.reads }
-
--- The object has no fault, and the write of the output failed; all else is as before.
-pub record FailedWrite (object : List ℕ) (old new : World) : Type 0 where
-  pub no_fault : HasFault first_fault old.files object None
-  pub cause : Rose old.writes new.writes
-  pub others : new ≡ record old { files = new.files; writes = new.writes }
-
--- The output was written, and the put of the map failed after a front of it; all else is as before.
-pub record FailedPut (output object : List ℕ) (old new : World) : Type 0 where
-  pub linked : HoldsLink old.files new.files output object
-  pub map : AppendsFront old.out new.out map_text
-  pub cause : Rose old.puts new.puts
-  pub others : new ≡ record old { files = new.files; out = new.out; puts = new.puts }
-
--- What a link comes to: it is done; or it is refused with the first fault of the object's file; or a read, a write or a
--- put failed; or memory was refused. After a refusal and after want of memory all is as before.
-abbrev pub LinkComesTo : List ℕ → List ℕ → Answer → World → World → Type 0
-LinkComesTo output object answers.Done old new = HasLinked output object old new
-LinkComesTo output object (answers.Refused fault) old new =
-    HasFault first_fault old.files object (Some fault) × (new ≡ old)
-LinkComesTo output object answers.Panicked old new = ⊥
-LinkComesTo output object answers.OutOfGas old new = ⊥
-LinkComesTo output object answers.Usage old new = ⊥
-LinkComesTo output object answers.FileFault old new =
-    FailedRead object old new ⊎ (FailedWrite object old new ⊎ FailedPut output object old new)
-LinkComesTo output object answers.Memory old new = new ≡ old
 
 -- the name holds a container, in whose file there is no such fault
 pub record HoldsContainer (first_of : List ℕ → Option Fault) (files : Option Files) (blob : List ℕ)
@@ -180,7 +111,7 @@ DisassembleComesTo blob answer old new =
 -- What the words come to: a faulty command line is answered as one, and all is as before.
 abbrev pub ComesTo : Option Command → Answer → World → World → Type 0
 ComesTo None answer old new = (answer ≡ answers.Usage) × (new ≡ old)
-ComesTo (Some (Link output object)) answer old new = LinkComesTo output object answer old new
+ComesTo (Some (Link link)) answer old new = LinkComesTo link answer old new
 ComesTo (Some (Run entry gas blob)) answer old new = RunComesTo entry gas blob answer old new
 ComesTo (Some (Check blob)) answer old new = CheckComesTo blob answer old new
 ComesTo (Some (Disassemble blob)) answer old new = DisassembleComesTo blob answer old new
@@ -219,7 +150,7 @@ pub record Concludes (command : Option Command) (status : Status) (old new : Wor
 -- Every name but the output of a link holds what it held; with another command, or without one, every name does.
 abbrev pub KeepsFiles : Option Command → Option Files → Option Files → Type 0
 KeepsFiles None old new = new ≡ old
-KeepsFiles (Some (Link output object)) old new = KeepsOthers output old new
+KeepsFiles (Some (Link link)) old new = KeepsOthers link.output old new
 KeepsFiles (Some (Run entry gas blob)) old new = new ≡ old
 KeepsFiles (Some (Check blob)) old new = new ≡ old
 KeepsFiles (Some (Disassemble blob)) old new = new ≡ old

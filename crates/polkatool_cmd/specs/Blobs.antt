@@ -4,7 +4,7 @@ use Rattle.std.specs.Io.KnownBytes.{Appends}
 use Rattle.outside.specs.Outside.{Files, Rose, Missing, AppendsFront}
 use Rattle.elf_objects.specs.declared.fault.Fault.{Fault}
 use Rattle.polkatool_cmd.specs.Faults.{too_large}
-use Rattle.polkatool_cmd.specs.Answers.{Holds, Stream}
+use Rattle.polkatool_cmd.specs.World.{Holds, Stream}
 use Rattle.polkatool_cmd.specs.declared.answer.Answer.{Answer}
 use Rattle.polkatool_cmd.specs.declared.answer.Answer.TheVariants as answers
 

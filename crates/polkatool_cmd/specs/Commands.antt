@@ -1,55 +1,21 @@
 -- What a list of words asks for. Whether the words are a command is a question about the words alone.
-use Rattle.std.specs.Prelude.{ℕ, ◌+◌, ◌-◌, ◌*◌, ◌^◌, List, [], ◌∷◌, Bool, false, ◌&&◌, not, ◌==◌, nat_lt, if◌then◌else◌, Option, Some, None, codes}
-use Rattle.std.specs.Char.{is_ascii_digit}
-use Rattle.std.specs.Str.{is_utf8, bytes_eq}
+use Rattle.std.specs.Prelude.{ℕ, ◌^◌, List, [], ◌∷◌, if◌then◌else◌, Option, Some, None, codes}
+use Rattle.std.specs.Str.{bytes_eq}
 use Rattle.std.specs.Option.{option_map, option_copied, unwrap_or}
+use Rattle.polkatool_cmd.specs.Values.{begins_with_dash, file_of, number_below}
+use Rattle.polkatool_cmd.specs.LinkWords.{LinkCommand, link_command_of}
+use Rattle.polkatool_cmd.specs.LinkRead.{link_in}
 use Rattle.polkatool_cmd.specs.declared.commands.Command.{Command as Asked}
 use Rattle.polkatool_cmd.specs.declared.commands.Command.TheVariants as asked
 use Rattle.polkatool_cmd.specs.declared.run_words.RunWords.{RunWords as Read}
 
--- A command with its values: to link the object of one name into the output of another, to run the blob of a name from
--- an entry with so much gas, to check it, and to disassemble it.
+-- A command with its values: to link objects into an output, to run the blob of a name from an entry with so much gas, to
+-- check it, and to disassemble it.
 pub data Command : Type 0 where
-  Link : (output object : List ℕ) → Command
+  Link : (link : LinkCommand) → Command
   Run : (entry gas : ℕ) (blob : List ℕ) → Command
   Check : (blob : List ℕ) → Command
   Disassemble : (blob : List ℕ) → Command
-
--- a word that names a file: it is not empty, and UTF-8
-abbrev pub is_name : List ℕ → Bool
-is_name [] = false
-is_name (b ∷ bs) = is_utf8 (b ∷ bs)
-
--- a word that begins with '-', as options do
-abbrev pub begins_with_dash : List ℕ → Bool
-begins_with_dash [] = false
-begins_with_dash (b ∷ bs) = b == 45
-
--- a word that names a file, and is no option
-abbrev pub is_file : List ℕ → Bool
-is_file word = is_name word && not (begins_with_dash word)
-
--- the number that decimal digits spell behind a number, where all bytes are digits
-unfoldable pub digits_behind : ℕ → List ℕ → Option ℕ
-digits_behind n [] = Some n
-digits_behind n (b ∷ bs) = if is_ascii_digit b then digits_behind (10 * n + (b - 48)) bs else None
-
--- a number below a bound
-abbrev pub below : ℕ → Option ℕ → Option ℕ
-below bound None = None
-below bound (Some n) = if nat_lt n bound then Some n else None
-
--- The number below a bound that a word spells: decimal digits without a leading zero, but for 0 itself.
-abbrev pub number_below : ℕ → List ℕ → Option ℕ
-number_below bound [] = None
-number_below bound (b ∷ []) = below bound (digits_behind 0 (b ∷ []))
-number_below bound (b ∷ c ∷ bs) = if b == 48 then None else below bound (digits_behind 0 (b ∷ c ∷ bs))
-
--- the link of the words -o OUT OBJ
-abbrev pub link_of : List (List ℕ) → Option Command
-link_of (option ∷ output ∷ object ∷ []) =
-    if bytes_eq option (codes "-o") && (is_name output && is_file object) then Some (Link output object) else None
-link_of words = None
 
 -- what words of a run have named so far
 pub record RunWords : Type 0 where
@@ -83,10 +49,6 @@ with_option words option value =
     else (if bytes_eq option (codes "--gas") then with_gas words value
     else None)
 
--- the name of a file that a word is
-abbrev pub file_of : List ℕ → Option (List ℕ)
-file_of word = if is_file word then Some word else None
-
 -- a file behind what is named so far, at most one
 abbrev pub with_file : RunWords → List ℕ → Option RunWords
 with_file words file = option_map (λ blob. record words { blob = Some blob }) (once words.blob (file_of file))
@@ -119,12 +81,12 @@ abbrev pub blob_of : List (List ℕ) → Option (List ℕ)
 blob_of (word ∷ []) = file_of word
 blob_of words = None
 
--- The command that the words are: link -o OUT OBJ; run and in any order a BLOB, --entry I and --gas N; check BLOB; or
+-- The command that the words are: link and what `LinkWords` says; run and in any order a BLOB, --entry I and --gas N; check BLOB; or
 -- disassemble BLOB. None where they are a faulty command line.
 abbrev pub command_of : List (List ℕ) → Option Command
 command_of [] = None
 command_of (verb ∷ words) =
-    if bytes_eq verb (codes "link") then link_of words
+    if bytes_eq verb (codes "link") then option_map Link (link_command_of words)
     else (if bytes_eq verb (codes "run") then run_of (run_words (Some no_words) words)
     else (if bytes_eq verb (codes "check") then option_map Check (blob_of words)
     else (if bytes_eq verb (codes "disassemble") then option_map Disassemble (blob_of words)
@@ -132,7 +94,7 @@ command_of (verb ∷ words) =
 
 -- the command that was asked for
 abbrev pub command_in : Asked → Command
-command_in (asked.Link c) = Link c.output.now c.object.now
+command_in (asked.Link c) = Link (link_in c)
 command_in (asked.Run c) = Run c.entry c.gas c.blob.now
 command_in (asked.Check blob) = Check blob.now
 command_in (asked.Disassemble blob) = Disassemble blob.now

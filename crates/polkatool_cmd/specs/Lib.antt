@@ -1,7 +1,11 @@
-pub mod Straight
-pub mod Assembling
+pub mod Values
+pub mod World
 pub mod Commands
-pub mod LinkFaults
+pub mod LinkWords
+pub mod LinkRead
+pub mod LinkAnswers
+pub mod Linking
+pub mod FaultNames
 pub mod Faults
 pub mod Statuses
 pub mod Lines

@@ -1,11 +1,8 @@
 -- What the program prints.
-use Rattle.std.specs.Prelude.{ℕ, List, ◌++◌, ◌==◌, if◌then◌else◌, codes}
+use Rattle.std.specs.Prelude.{ℕ, List, ◌++◌, codes}
 use Rattle.std.specs.Fmt.{decimal}
 use Rattle.elf_objects.specs.declared.fault.Fault.{Fault}
-
--- the map of a link whose one entry is main, which begins at position 5 of the code
-abbrev pub map_text : List ℕ
-map_text = codes "entry 0 00000005 main\n"
+use Rattle.polkatool_cmd.specs.FaultNames.{name_of}
 
 -- what a check of a program without a fault puts
 abbrev pub ok_text : List ℕ
@@ -20,23 +17,6 @@ file_fault_line = codes "polkatool: file fault\n"
 
 abbrev pub memory_line : List ℕ
 memory_line = codes "polkatool: out of memory\n"
-
--- the name of a fault's code
-abbrev pub name_of : ℕ → List ℕ
-name_of code =
-    if code == 40 then codes "Truncated"
-    else (if code == 41 then codes "Overlong"
-    else (if code == 42 then codes "BadWidth"
-    else (if code == 43 then codes "BadPadding"
-    else (if code == 44 then codes "LeftOver"
-    else (if code == 47 then codes "BadEntry"
-    else (if code == 50 then codes "NoFirst"
-    else (if code == 51 then codes "UnknownOpcode"
-    else (if code == 52 then codes "BadTarget"
-    else (if code == 53 then codes "BadEntry"
-    else (if code == 54 then codes "OpenEnd"
-    else (if code == 61 then codes "FileTooLarge"
-    else codes "NotBuilt")))))))))))
 
 -- a label and a number in decimal
 abbrev pub field : List ℕ → ℕ → List ℕ

@@ -16,7 +16,7 @@ use Rattle.pvm_machine.specs.declared.answers.Exit.TheVariants as exit
 use Rattle.polkatool_cmd.specs.RunFaults.{first_run_fault}
 use Rattle.polkatool_cmd.specs.Transcript.{transcript}
 use Rattle.polkatool_cmd.specs.Statuses.{status_of}
-use Rattle.polkatool_cmd.specs.Answers.{Stream}
+use Rattle.polkatool_cmd.specs.World.{Stream}
 use Rattle.polkatool_cmd.specs.declared.answer.Answer.{Answer}
 use Rattle.polkatool_cmd.specs.declared.answer.Answer.TheVariants as answers
 use Rattle.polkatool_cmd.specs.declared.run_fault.RunFault.{RunFault}

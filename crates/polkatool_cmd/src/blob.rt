@@ -6,7 +6,7 @@ ghost use Rattle.polkatool_cmd.specs.BlobFaults.{blob_fault_at, blob_fault as bl
 ghost use Rattle.polkatool_cmd.specs.Blobs.{HoldsBlob, FailsToRead};
 
 use crate::answer::Answer;
-use crate::report::{BAD_PADDING, BAD_WIDTH, FILE_TOO_LARGE, LEFT_OVER, OVERLONG, TRUNCATED};
+use crate::fault_names::{BAD_PADDING, BAD_WIDTH, FILE_TOO_LARGE, LEFT_OVER, OVERLONG, TRUNCATED};
 use blob_codec::{BlobFault, Container};
 use elf_objects::Fault;
 use outside::{Bytes, Folder, ReadFault};

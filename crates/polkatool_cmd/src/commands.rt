@@ -1,3 +1,5 @@
+use crate::link_command::LinkCommand;
+
 /// A command with its values.
 #[derive(Clone, Copy)]
 pub(crate) enum Command<'a> {
@@ -7,13 +9,6 @@ pub(crate) enum Command<'a> {
     Check(&'a str),
     /// The disassembly of a program, by the name of its file.
     Disassemble(&'a str),
-}
-
-/// The link of one object into an output, by the names of their files.
-#[derive(Clone, Copy)]
-pub(crate) struct LinkCommand<'a> {
-    pub output: &'a str,
-    pub object: &'a str,
 }
 
 /// The run of a program from an entry with so much gas, by the name of its file.

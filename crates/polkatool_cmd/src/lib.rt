@@ -1,16 +1,15 @@
 //! The top call: a list of words, a folder and two sinks give a status.
 //!
-//! `specs/Commands.antt` says which words are a command, `specs/Faults.antt` why an object isn't linked, `specs/BlobFaults.antt`
-//! why what a file holds is no container, `specs/RunFaults.antt` and `specs/CheckFaults.antt` why a container isn't run or is
-//! no checked one, and `specs/Answers.antt` what a command comes to and how that is told.
+//! `specs/Commands.antt` says which words are a command and `specs/LinkWords.antt` which are a link, `specs/Faults.antt` which
+//! files are too large, `specs/BlobFaults.antt` why what a file holds is no container, `specs/RunFaults.antt` and
+//! `specs/CheckFaults.antt` why a container isn't run or is no checked one, and `specs/Answers.antt` and
+//! `specs/LinkAnswers.antt` what a command comes to and how that is told. Why objects aren't linked says `link_core`.
 #![tactic(auto)]
 
 ghost use Rattle.polkatool_cmd.specs.Commands.{command_of};
 ghost use Rattle.polkatool_cmd.specs.Answers.{Concludes, KeepsFiles};
-ghost use Rattle.polkatool_cmd.specs.Straight.{StraightIsLinked};
 
 mod answer;
-mod assembly;
 mod blob;
 #[cfg(test)]
 mod blob_tests;
@@ -18,9 +17,12 @@ mod check;
 mod command;
 mod commands;
 mod disassemble;
-mod link;
-mod link_fault;
-mod lowering;
+mod fault_names;
+mod link_command;
+mod link_objects;
+mod link_words;
+#[cfg(test)]
+mod link_words_tests;
 mod report;
 mod run;
 mod run_fault;
@@ -43,8 +45,9 @@ pub use words::Words;
 
 /// Does what the words ask for, in the folder and on out, and tells on err what went wrong.
 ///
-/// The words are `link -o OUT OBJ`: the object in the file OBJ is linked into the file OUT, and its map is put on out.
-/// Or they are `run` and, in any order, BLOB, `--entry I` and `--gas N`: the container in the file BLOB is run from entry I,
+/// The words are `link` and, in any order, `-o OUT`, `-e NAME` and `-i NAME=NUMBER` or `-i NAME=sbrk` any number of times,
+/// `--stack N`, and OBJ once or more: the objects in the files OBJ are linked into the file OUT with the entries of these
+/// names, `main` without any, and the map is put on out. Or they are `run` and, in any order, BLOB, `--entry I` and `--gas N`: the container in the file BLOB is run from entry I,
 /// 0 without it, with gas N, 10,000,000 without it, and the transcript of the run is put on out. Or they are `check BLOB`:
 /// where the container's program has no fault, `ok` and a line feed are put on out. Or `disassemble BLOB`: the text of the
 /// program is put on out, whatever a check would say. All other words are a faulty command line, for which no memory is taken.
@@ -77,8 +80,3 @@ pub fn polkatool<F: Folder, O: Sink, E: Sink>(
     let answer = answer_to(alloc, words, files, out);
     report(answer, err)
 }
-
-/// A text's straight code is the linked program of the object with that text.
-pub fn straight_code_is_linked()
-    ensures { StraightIsLinked }
-{}

@@ -2,46 +2,16 @@
 
 ghost use Rattle.std.specs.Prelude.{◌≡◌, ◌+◌, ◌≤◌, ◌++◌, length};
 ghost use Rattle.arrayvec.specs.ArrayString.{array_string_len};
-ghost use Rattle.polkatool_cmd.specs.Lines.{name_of, field, refused_line as refused_line_of};
+ghost use Rattle.polkatool_cmd.specs.Lines.{field, refused_line as refused_line_of};
 ghost use Rattle.polkatool_cmd.specs.Answers.{Puts, Reports};
 
 use crate::answer::Answer;
+use crate::fault_names::fault_name;
 use crate::status::Status;
 use arrayvec::ArrayString;
 use elf_objects::Fault;
 use itoa::Buffer;
 use outside::Sink;
-
-/// The codes of what keeps bytes from being a container, as `BlobFault` tells them.
-pub(crate) const TRUNCATED: u8 = 40;
-
-pub(crate) const OVERLONG: u8 = 41;
-
-pub(crate) const BAD_WIDTH: u8 = 42;
-
-pub(crate) const BAD_PADDING: u8 = 43;
-
-pub(crate) const LEFT_OVER: u8 = 44;
-
-/// The code of a program at whose entry no block starts.
-pub(crate) const BAD_ENTRY: u8 = 47;
-
-/// The code of a program at whose position 0 no block starts.
-pub(crate) const NO_FIRST: u8 = 50;
-
-/// The codes of what is wrong with an instruction of a program.
-pub(crate) const UNKNOWN_OPCODE: u8 = 51;
-
-pub(crate) const BAD_TARGET: u8 = 52;
-
-/// The code of a jump table with an entry at whose position no block starts.
-pub(crate) const BAD_TABLE_ENTRY: u8 = 53;
-
-/// The code of a program whose last instruction ends no block.
-pub(crate) const OPEN_END: u8 = 54;
-
-/// The code of a file with too many bytes.
-pub(crate) const FILE_TOO_LARGE: u8 = 61;
 
 const USAGE: &str = "polkatool: bad command line\n";
 
@@ -118,26 +88,4 @@ pub(crate) fn push_field(label: &str, number: u64, line: &mut ArrayString<LINE_L
     let mut digits = Buffer::new();
     line.push_str(label);
     line.push_str(digits.format(number));
-}
-
-/// The name of a fault's code.
-fn fault_name(code: u8) -> &'static str
-    ensures name { result.now ≡ name_of code }
-    ensures short { length result.now ≤ 13 }
-{
-    match code {
-        TRUNCATED => "Truncated",
-        OVERLONG => "Overlong",
-        BAD_WIDTH => "BadWidth",
-        BAD_PADDING => "BadPadding",
-        LEFT_OVER => "LeftOver",
-        BAD_ENTRY => "BadEntry",
-        NO_FIRST => "NoFirst",
-        UNKNOWN_OPCODE => "UnknownOpcode",
-        BAD_TARGET => "BadTarget",
-        BAD_TABLE_ENTRY => "BadEntry",
-        OPEN_END => "OpenEnd",
-        FILE_TOO_LARGE => "FileTooLarge",
-        _ => "NotBuilt",
-    }
 }

@@ -14,7 +14,8 @@ ghost use Rattle.polkatool_cmd.specs.Running.{Starts, FailsToStart, Tells, EndsA
 use crate::answer::Answer;
 use crate::blob::{blob_fault, read_blob};
 use crate::commands::RunCommand;
-use crate::report::{BAD_ENTRY, push_field};
+use crate::fault_names::BAD_ENTRY;
+use crate::report::push_field;
 use crate::run_fault::{RunFault, unbuilt_form};
 use arrayvec::ArrayString;
 use blob_codec::Container;

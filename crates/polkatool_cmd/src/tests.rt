@@ -49,6 +49,13 @@ const OF_TWO_INSTRUCTIONS: [u8; 25] = [
     0, 0, 0, 0, 0, 0, 0, 0, 0, 0, 1, 0x0a, 0, 0, 0, 0, 0x01, 0x06, 0x28, 0x05, 0, 0, 0, 0, 0x21,
 ];
 
+/// The container of two objects with two entries at the second one's text: the entries' jumps `jump 15` and `jump 10`, and
+/// the text of each object.
+const OF_TWO_OBJECTS: [u8; 41] = [
+    0, 0, 0, 0, 0, 0, 0, 0, 0, 0, 1, 0x1a, 0, 0, 0, 0, 0x01, 0x14, 0x28, 0x0f, 0, 0, 0, 0x28, 0x0a,
+    0, 0, 0, 0x33, 0x07, 0x05, 0x32, 0x00, 0x33, 0x07, 0x05, 0x32, 0x00, 0x21, 0xa4, 0x04,
+];
+
 const USAGE: &[u8; 28] = b"polkatool: bad command line\n";
 
 const MAP: &[u8; 22] = b"entry 0 00000005 main\n";
@@ -113,6 +120,15 @@ fn object_of_another_word(alloc: Global) -> Result<Vec<u8>, AllocError> {
     let mut object = object(alloc)?;
     if let Some(byte) = object.get_mut(68) {
         *byte = 0x68;
+    }
+    Ok(object)
+}
+
+/// The object, whose symbol `main` is weak.
+fn weak_object(alloc: Global) -> Result<Vec<u8>, AllocError> {
+    let mut object = object(alloc)?;
+    if let Some(byte) = object.get_mut(100) {
+        *byte = 0x22;
     }
     Ok(object)
 }
@@ -219,6 +235,48 @@ fn links_an_object(rt: HostRuntime) -> Result<(), Fail> {
     Ok(())
 }
 
+/// A weak definition of `main` gives way to a global one: both entries lead to the second object's text, behind the first's.
+#[test]
+fn links_two_objects(rt: HostRuntime) -> Result<(), Fail> {
+    let object = object(rt.alloc())?;
+    let weak = weak_object(rt.alloc())?;
+    let line: [&[u8]; 9] = [
+        b"link", b"w", b"-e", b"main", b"-o", b"b", b"-e", b"main", b"o",
+    ];
+    let mut outside = outside_with(rt.alloc(), &object)?;
+    outside.files.add("w", &weak)?;
+    let answer = run(rt.alloc(), &mut outside, &line)?;
+    assert_eq!(rt; answer, Status::Done);
+    assert!(rt;
+        holds(
+            &outside,
+            &OF_TWO_OBJECTS,
+            b"entry 0 0000000f main\nentry 1 0000000f main\n",
+            b""
+        )
+    );
+    Ok(())
+}
+
+/// Two global definitions of `main` are refused with the second.
+#[test]
+fn refuses_a_name_twice(rt: HostRuntime) -> Result<(), Fail> {
+    let object = object(rt.alloc())?;
+    let line: [&[u8]; 5] = [b"link", b"o", b"o", b"-o", b"b"];
+    assert!(rt;
+        comes_to(
+            rt.alloc(),
+            &object,
+            &line,
+            Status::Refused,
+            b"",
+            b"",
+            b"refused 10 Duplicate object=1 section=2 offset=1\n"
+        )?
+    );
+    Ok(())
+}
+
 /// Its code is the entry's jump and the trap at the end.
 #[test]
 fn links_an_object_of_no_text(rt: HostRuntime) -> Result<(), Fail> {
@@ -245,14 +303,14 @@ fn refuses_other_files(rt: HostRuntime) -> Result<(), Fail> {
         is_refused(
             rt.alloc(),
             b"",
-            b"refused 63 NotBuilt object=0 section=0 offset=0\n"
+            b"refused 1 NotElf object=0 section=0 offset=0\n"
         )?
     );
     assert!(rt;
         is_refused(
             rt.alloc(),
             &word,
-            b"refused 63 NotBuilt object=0 section=1 offset=4\n"
+            b"refused 20 BadWord object=0 section=1 offset=4\n"
         )?
     );
     assert!(rt;
@@ -267,17 +325,15 @@ fn refuses_other_files(rt: HostRuntime) -> Result<(), Fail> {
 
 #[test]
 fn answers_faulty_command_lines(rt: HostRuntime) -> Result<(), Fail> {
-    let lines: [&[&[u8]]; 11] = [
+    let lines: [&[&[u8]]; 9] = [
         &[],
         &[b"link"],
         &[b"link", b"-o", b"b"],
-        &[b"link", b"-o", b"b", b"o", b"o"],
         &[b"run", b"-o", b"b", b"o"],
-        &[b"link", b"-e", b"b", b"o"],
-        &[b"link", b"o", b"-o", b"b"],
+        &[b"link", b"-o", b"b", b"-e"],
         &[b"link", b"-o", b"", b"o"],
         &[b"link", b"-o", b"b", b""],
-        &[b"link", b"-o", b"b", b"-o"],
+        &[b"link", b"-o", b"b", b"-o", b"c", b"o"],
         &[b"link", b"-o", b"\xff", b"o"],
     ];
     for line in lines {

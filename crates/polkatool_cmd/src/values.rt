@@ -1,14 +1,23 @@
 //! What a word stands for: a number, or the name of a file.
 
 ghost use Rattle.std.specs.Option.{SomeIff};
-ghost use Rattle.std.specs.Prelude.{◌≡◌, ◌+◌, ◌*◌, ◌^◌, ◌<◌, MatchOption, true, false};
-ghost use Rattle.polkatool_cmd.specs.Commands.{below, number_below, digits_behind, begins_with_dash, is_name, is_file};
+ghost use Rattle.std.specs.Prelude.{◌≡◌, ◌+◌, ◌*◌, ◌^◌, ◌<◌, MatchOption, IfSome, true, false};
+ghost use Rattle.polkatool_cmd.specs.Values.{below, number_below, digits_behind, begins_with_dash, is_name, is_file};
 
 /// The number below 2^32 that decimal digits without a leading zero spell.
 pub(crate) fn small_number(word: &[u8]) -> Option<u32>
     ensures { result ≡ number_below (2 ^ 32) word.now }
 {
     u32::try_from(number(word)?).ok()
+}
+
+/// The number below a bound that decimal digits without a leading zero spell.
+pub(crate) fn number_below(word: &[u8], bound: u32) -> Option<u32>
+    ensures number { result ≡ number_below bound word.now }
+    ensures below { IfSome result (λ number. number < bound) }
+{
+    let number = small_number(word)?;
+    if number < bound { Some(number) } else { None }
 }
 
 /// The number below 2^64 that decimal digits without a leading zero spell.

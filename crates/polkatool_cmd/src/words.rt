@@ -1,10 +1,11 @@
 ghost use Rattle.std.specs.Prelude.{◌≡◌, ◌++◌, ◌∷◌, [], OnOk, OnErr};
 ghost use Rattle.std.specs.Option.{option_copied, option_map};
-ghost use Rattle.polkatool_cmd.specs.Commands.{command_of, command_in, link_of, blob_of};
+ghost use Rattle.polkatool_cmd.specs.Commands.{command_of, command_in, blob_of};
 
-use crate::commands::{Command, LinkCommand};
+use crate::commands::Command;
+use crate::link_words::link_command;
 use crate::run_words::run_of;
-use crate::values::{file, name};
+use crate::values::file;
 use outside::Bytes;
 use std::alloc::{AllocError, Global};
 use std::marker::Model;
@@ -59,7 +60,7 @@ pub(crate) fn command_of(words: &Words) -> Option<Command<'_>>
 {
     let (verb, rest) = words.as_slice().split_first()?;
     if verb.as_slice() == b"link".as_slice() {
-        link_of(rest)
+        Some(Command::Link(link_command(rest)?))
     } else if verb.as_slice() == b"run".as_slice() {
         run_of(rest)
     } else if verb.as_slice() == b"check".as_slice() {
@@ -68,20 +69,6 @@ pub(crate) fn command_of(words: &Words) -> Option<Command<'_>>
         Some(Command::Disassemble(blob_of(rest)?))
     } else {
         None
-    }
-}
-
-/// The link that the words behind the verb name.
-fn link_of(words: &[Bytes]) -> Option<Command<'_>>
-    ensures { option_map command_in result ≡ link_of words.now }
-{
-    match words {
-        [option, output, object] if option.as_slice() == b"-o".as_slice() => {
-            let output = name(output.as_slice())?;
-            let object = file(object.as_slice())?;
-            Some(Command::Link(LinkCommand { output, object }))
-        }
-        _ => None,
     }
 }
 

@@ -1,6 +1,7 @@
 use Rattle.std.proofs.Common.{None, sym, ap, ◌∙◌}
 use Rattle.std.specs.Option.{option_map}
-use Rattle.polkatool_cmd.specs.Commands.{words_in, begins_with_dash}
+use Rattle.polkatool_cmd.specs.Commands.{words_in}
+use Rattle.polkatool_cmd.specs.Values.{begins_with_dash}
 use Rattle.polkatool_cmd.proofs.Naming.{run_words-none, named-end, named-alone, named-option, named-file}
 use Rattle.polkatool_cmd.proofs.run_words.read.Goals as goal
 

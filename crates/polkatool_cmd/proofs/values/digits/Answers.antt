@@ -1,5 +1,5 @@
 use Rattle.std.proofs.Common.{◌≤◌, ◌+◌, ◌*◌, ◌-◌, ◌^◌, drop, get_or, sym, ap, ◌∙◌, arith}
-use Rattle.polkatool_cmd.specs.Commands.{below, digits_behind}
+use Rattle.polkatool_cmd.specs.Values.{below, digits_behind}
 use Rattle.polkatool_cmd.proofs.Digits.{digits_behind-at, digits_behind-other_at, digits_behind-end, digits_behind-large}
 use Rattle.polkatool_cmd.proofs.values.digits.Goals as goal
 

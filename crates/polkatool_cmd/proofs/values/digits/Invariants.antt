@@ -1,5 +1,5 @@
 use Rattle.std.proofs.Common.{◌≡◌, ◌<◌, ◌^◌, drop}
-use Rattle.polkatool_cmd.specs.Commands.{below, digits_behind}
+use Rattle.polkatool_cmd.specs.Values.{below, digits_behind}
 use Rattle.polkatool_cmd.proofs.values.digits.Given as goal
 
 abbrev pub invariant-loop-byte : goal.invariant-loop-byte

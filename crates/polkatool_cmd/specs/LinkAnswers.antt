@@ -1,0 +1,90 @@
+-- What a link comes to.
+use Rattle.std.specs.Prelude.{◌≡◌, ◌⊎◌, ℕ, List, [], ◌∷◌, length, Option, Some, None, slice_get}
+use Rattle.std.specs.Io.KnownBytes.{Appends}
+use Rattle.outside.specs.Outside.{Files, Rose, AppendsFront}
+use Rattle.elf_objects.specs.declared.fault.Fault.{Fault}
+use Rattle.link_core.specs.Linked.{Linked, HoldsLinked}
+use Rattle.link_core.specs.Faults.{given_of, first_fault}
+use Rattle.polkatool_cmd.specs.LinkWords.{LinkCommand}
+use Rattle.polkatool_cmd.specs.Faults.{first_too_large}
+use Rattle.polkatool_cmd.specs.World.{World, Holds, FailedRead}
+use Rattle.polkatool_cmd.specs.declared.answer.Answer.{Answer}
+use Rattle.polkatool_cmd.specs.declared.answer.Answer.TheVariants as answers
+
+-- the first of these names hold these files, one each, where files are told
+abbrev pub HoldFiles : Option Files → List (List ℕ) → List (List ℕ) → Type 0
+HoldFiles told names [] = Unit {0}
+HoldFiles told [] (file ∷ files) = ⊥
+HoldFiles told (name ∷ names) (file ∷ files) = Holds told name file × HoldFiles told names files
+
+-- the files of a link's objects are these, and none of them is too large
+pub record HasObjects (told : Option Files) (link : LinkCommand) (files : List (List ℕ)) : Type 0 where
+  pub all : length files ≡ length link.objects
+  pub held : HoldFiles told link.objects files
+  pub fit : first_too_large files ≡ None
+
+-- The objects of which the names held the files have no fault, and this is their linked program.
+pub record LinksFiles (told : Option Files) (link : LinkCommand) (linked : Linked) : Type 0 where
+  pub files : List (List ℕ)
+  pub objects : HasObjects told link files
+  pub no_fault : first_fault files link.wanted ≡ None
+  pub holds : HoldsLinked (given_of files link.wanted) linked
+
+-- The linked program's container was written and its map put; all else is as before.
+pub record HasLinked (link : LinkCommand) (old new : World) : Type 0 where
+  pub linked : Linked
+  pub links : LinksFiles old.files link linked
+  pub written : Holds new.files link.output linked.container
+  pub map : Appends old.out new.out linked.map
+  pub others : new ≡ record old { files = new.files; out = new.out }
+
+-- A file is too large, and those before it aren't: this is its fault.
+pub record HasLargeFile (told : Option Files) (link : LinkCommand) (fault : Fault) : Type 0 where
+  pub files : List (List ℕ)
+  pub held : HoldFiles told link.objects files
+  pub first : first_too_large files ≡ Some fault
+
+-- No file is too large, and this is the first fault of the objects.
+pub record HasObjectFault (told : Option Files) (link : LinkCommand) (fault : Fault) : Type 0 where
+  pub files : List (List ℕ)
+  pub objects : HasObjects told link files
+  pub first : first_fault files link.wanted ≡ Some fault
+
+-- A file is missing or its read failed, and those before it were read and aren't too large; all else is as before.
+pub record FailedObject (link : LinkCommand) (old new : World) : Type 0 where
+  pub files : List (List ℕ)
+  pub held : HoldFiles old.files link.objects files
+  pub fit : first_too_large files ≡ None
+  pub name : List ℕ
+  pub next : slice_get link.objects (length files) ≡ Some name
+  pub failed : FailedRead name old new
+
+-- The objects were linked, and the write of the output failed; all else is as before.
+pub record FailedWrite (link : LinkCommand) (old new : World) : Type 0 where
+  pub linked : Linked
+  pub links : LinksFiles old.files link linked
+  pub cause : Rose old.writes new.writes
+  pub others : new ≡ record old { files = new.files; writes = new.writes }
+
+-- The output was written, and the put of the map failed after a front of it; all else is as before.
+pub record FailedPut (link : LinkCommand) (old new : World) : Type 0 where
+  pub linked : Linked
+  pub links : LinksFiles old.files link linked
+  pub written : Holds new.files link.output linked.container
+  pub map : AppendsFront old.out new.out linked.map
+  pub cause : Rose old.puts new.puts
+  pub others : new ≡ record old { files = new.files; out = new.out; puts = new.puts }
+
+-- What a link comes to: it is done; or it is refused, with the first file that is too large, or else with the first fault of
+-- the objects; or a read, a write or a put failed; or memory was refused. After a refusal and after want of memory all is
+-- as before.
+abbrev pub LinkComesTo : LinkCommand → Answer → World → World → Type 0
+LinkComesTo link answers.Done old new = HasLinked link old new
+LinkComesTo link (answers.Refused fault) old new =
+    (HasLargeFile old.files link fault ⊎ HasObjectFault old.files link fault) × (new ≡ old)
+LinkComesTo link answers.Panicked old new = ⊥
+LinkComesTo link answers.OutOfGas old new = ⊥
+LinkComesTo link answers.Usage old new = ⊥
+LinkComesTo link answers.FileFault old new =
+    FailedObject link old new ⊎ (FailedWrite link old new ⊎ FailedPut link old new)
+LinkComesTo link answers.Memory old new = new ≡ old

@@ -1,0 +1,156 @@
+-- What the words of a link ask for: they are cut into items, and the items are a link where they meet its conditions.
+use Rattle.std.specs.Prelude.{ℕ, ◌^◌, List, [], ◌∷◌, length, Bool, false, ◌&&◌, ◌||◌, not, ◌==◌, nat_le, if◌then◌else◌, Option, Some, None, is_some, unwrap_or, slice_get, codes, option_map, option_and_then}
+use Rattle.std.specs.List.{filter_map, list_all, list_any, before_last, after_last}
+use Rattle.std.specs.Str.{bytes_eq}
+use Rattle.symbols.specs.declared.wanted.ImportKind.{ImportKind}
+use Rattle.symbols.specs.declared.wanted.ImportKind.TheVariants.{Host, Sbrk}
+use Rattle.symbols.specs.Wanted.{Import, Wanted}
+use Rattle.polkatool_cmd.specs.Values.{begins_with_dash, is_name, file_of, number_below}
+
+-- An item of a command line: an option with its value, an option at the end, which has none, or a word that names a file.
+pub data Item : Type 0 where
+  Setting : (option value : List ℕ) → Item
+  Unvalued : (option : List ℕ) → Item
+  File : (word : List ℕ) → Item
+
+-- The items of words, from left to right: a word that begins with '-' is an option and takes the next word as its value,
+-- whatever that is; any other word names a file.
+unfoldable pub items : List (List ℕ) → List Item
+items [] = []
+items (word ∷ []) = (if begins_with_dash word then Unvalued word else File word) ∷ []
+items (word ∷ next ∷ rest) =
+    if begins_with_dash word then Setting word next ∷ items rest
+    else File word ∷ items (next ∷ rest)
+
+-- the value that an item gives an option
+abbrev pub value_in : List ℕ → Item → Option (List ℕ)
+value_in option (Setting name value) = if bytes_eq name option then Some value else None
+value_in option (Unvalued name) = None
+value_in option (File word) = None
+
+-- the output's name, which may begin with '-'
+abbrev pub output_of : List ℕ → Option (List ℕ)
+output_of value = if is_name value then Some value else None
+
+-- the name of an entry or an import: any bytes, and not none
+abbrev pub wanted_name : List ℕ → Option (List ℕ)
+wanted_name [] = None
+wanted_name (b ∷ bs) = Some (b ∷ bs)
+
+-- what an import stands for: the host call of a number below 2^31, or `sbrk`
+abbrev pub kind_of : List ℕ → Option ImportKind
+kind_of word = if bytes_eq word (codes "sbrk") then Some Sbrk else option_map Host (number_below (2 ^ 31) word)
+
+abbrev pub import_with : Option (List ℕ) → Option ImportKind → Option Import
+import_with None kind = None
+import_with (Some name) kind = option_map (λ k. record { name = name; kind = k }) kind
+
+abbrev pub is_equals_sign : ℕ → Bool
+is_equals_sign b = b == 61
+
+-- The import that NAME=NUMBER or NAME=sbrk spells, where NAME ends at the last '='. Without a '=' there is no NAME.
+abbrev pub import_of : List ℕ → Option Import
+import_of value =
+    import_with (wanted_name (before_last is_equals_sign value)) (kind_of (after_last is_equals_sign value))
+
+-- the output that an item names
+abbrev pub output_in : Item → Option (List ℕ)
+output_in item = option_and_then output_of (value_in (codes "-o") item)
+
+-- the entry that an item names
+abbrev pub entry_in : Item → Option (List ℕ)
+entry_in item = option_and_then wanted_name (value_in (codes "-e") item)
+
+-- the import that an item names
+abbrev pub import_in : Item → Option Import
+import_in item = option_and_then import_of (value_in (codes "-i") item)
+
+-- how many bytes an item gives the stack, below 2^24
+abbrev pub stack_in : Item → Option ℕ
+stack_in item = option_and_then (number_below (2 ^ 24)) (value_in (codes "--stack") item)
+
+-- the object that an item names
+abbrev pub object_in : Item → Option (List ℕ)
+object_in (Setting option value) = None
+object_in (Unvalued option) = None
+object_in (File word) = file_of word
+
+-- whether an item is one of these
+abbrev pub is_of_link : Item → Bool
+is_of_link item =
+    is_some (output_in item) || is_some (entry_in item) || is_some (import_in item) || is_some (stack_in item)
+    || is_some (object_in item)
+
+-- whether a name is imported
+abbrev pub is_imported : List ℕ → List Import → Bool
+is_imported name = list_any (λ (import : Import). bytes_eq import.name name)
+
+-- whether a name is imported twice
+abbrev pub repeats_import : List Import → Bool
+repeats_import [] = false
+repeats_import (import ∷ rest) = is_imported import.name rest || repeats_import rest
+
+-- the outputs, entries, imports, stacks and objects that items name, each in their order
+abbrev pub outputs : List Item → List (List ℕ)
+outputs = filter_map output_in
+
+abbrev pub entries : List Item → List (List ℕ)
+entries = filter_map entry_in
+
+abbrev pub imports : List Item → List Import
+imports = filter_map import_in
+
+abbrev pub stacks : List Item → List ℕ
+stacks = filter_map stack_in
+
+abbrev pub objects : List Item → List (List ℕ)
+objects = filter_map object_in
+
+-- Whether items are a link: each is of a link; one names the output, and at most one the stack; 1 to 1,024 name objects;
+-- at most 1,000 name entries, and at most 1,000 imports, of which no two have one name.
+abbrev pub is_link : List Item → Bool
+is_link found =
+    list_all is_of_link found
+    && (length (outputs found) == 1)
+    && nat_le (length (stacks found)) 1
+    && nat_le 1 (length (objects found))
+    && nat_le (length (objects found)) 1024
+    && nat_le (length (entries found)) 1000
+    && nat_le (length (imports found)) 1000
+    && not (repeats_import (imports found))
+
+-- the entries of a link: `main` alone where none is named
+abbrev pub or_main : List (List ℕ) → List (List ℕ)
+or_main [] = codes "main" ∷ []
+or_main (name ∷ names) = name ∷ names
+
+-- how many bytes the stack has where the words don't say
+abbrev pub default_stack : ℕ
+default_stack = 65536
+
+-- A link with its values: the name of the output's file, those of the objects' files in order, and what is wanted of them.
+pub record LinkCommand : Type 0 where
+  pub output : List ℕ
+  pub objects : List (List ℕ)
+  pub wanted : Wanted
+
+-- the link of items, with an output and a stack
+abbrev pub link_with : List Item → List ℕ → ℕ → LinkCommand
+link_with found output stack = record {
+  output = output;
+  objects = objects found;
+  wanted = record { entries = or_main (entries found); imports = imports found; stack = stack };
+}
+
+-- the link that items are
+abbrev pub link_of : List Item → Option LinkCommand
+link_of found =
+    if is_link found then
+    option_map (λ output. link_with found output (unwrap_or (slice_get (stacks found) 0) default_stack))
+    (slice_get (outputs found) 0)
+    else None
+
+-- The command that the words behind `link` are: in any order -o OUT, once; -e NAME and -i NAME=NUMBER or -i NAME=sbrk,
+-- which repeat; --stack N, at most once; and OBJ, at least once. None where they are a faulty command line.
+abbrev pub link_command_of : List (List ℕ) → Option LinkCommand
+link_command_of words = link_of (items words)

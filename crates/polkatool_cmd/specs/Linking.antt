@@ -1,0 +1,65 @@
+-- What the parts of a link come to.
+use Rattle.std.specs.Prelude.{◌≡◌, ◌≤◌, ◌<◌, ◌⊎◌, ℕ, List, length, Option, Some, None, slice_get}
+use Rattle.outside.specs.Outside.{Files, Rose, Missing}
+use Rattle.elf_objects.specs.declared.fault.Fault.{Fault}
+use Rattle.polkatool_cmd.specs.LinkWords.{LinkCommand}
+use Rattle.polkatool_cmd.specs.Faults.{limit_of, file_too_large, first_too_large}
+use Rattle.polkatool_cmd.specs.World.{Holds}
+use Rattle.polkatool_cmd.specs.LinkAnswers.{HoldFiles, HasLargeFile, HasObjectFault}
+use Rattle.polkatool_cmd.specs.declared.answer.Answer.{Answer}
+use Rattle.polkatool_cmd.specs.declared.answer.Answer.TheVariants as answers
+
+-- a read of the name failed, which moved the count of failed reads, or it is missing
+pub record FailsToRead (told : Option Files) (name : List ℕ) (before now : ℕ) : Type 0 where
+  pub later : before ≤ now
+  pub cause : Rose before now ⊎ Missing told name
+
+-- the file of the name is too large where so many bytes are left
+pub record IsTooLarge (told : Option Files) (name : List ℕ) (left : ℕ) : Type 0 where
+  pub file : List ℕ
+  pub held : Holds told name file
+  pub large : limit_of left < length file
+
+-- why the file with a number isn't read; only a failed read moves the count
+abbrev pub FailsToReadOne : Option Files → List ℕ → ℕ → ℕ → ℕ → ℕ → Answer → Type 0
+FailsToReadOne told name number left before now (answers.Refused fault) =
+    IsTooLarge told name left × (fault ≡ file_too_large number) × (now ≡ before)
+FailsToReadOne told name number left before now answers.FileFault = FailsToRead told name before now
+FailsToReadOne told name number left before now answers.Memory = now ≡ before
+FailsToReadOne told name number left before now answer = ⊥
+
+-- the names hold these files, of which none is too large
+pub record HasRead (told : Option Files) (names files : List (List ℕ)) : Type 0 where
+  pub all : length files ≡ length names
+  pub held : HoldFiles told names files
+  pub fit : first_too_large files ≡ None
+
+-- a file of these is too large, and those before it aren't
+pub record HasLarge (told : Option Files) (names : List (List ℕ)) (fault : Fault) : Type 0 where
+  pub files : List (List ℕ)
+  pub held : HoldFiles told names files
+  pub first : first_too_large files ≡ Some fault
+
+-- a file of these isn't read, and those before it were
+pub record HasFailed (told : Option Files) (names : List (List ℕ)) (before now : ℕ) : Type 0 where
+  pub files : List (List ℕ)
+  pub held : HoldFiles told names files
+  pub fit : first_too_large files ≡ None
+  pub name : List ℕ
+  pub next : slice_get names (length files) ≡ Some name
+  pub failed : FailsToRead told name before now
+
+-- why files aren't read
+abbrev pub FailsToReadAll : Option Files → List (List ℕ) → ℕ → ℕ → Answer → Type 0
+FailsToReadAll told names before now (answers.Refused fault) = HasLarge told names fault × (now ≡ before)
+FailsToReadAll told names before now answers.FileFault = HasFailed told names before now
+FailsToReadAll told names before now answers.Memory = now ≡ before
+FailsToReadAll told names before now answer = ⊥
+
+-- why objects aren't linked: by their files, or by a fault of theirs
+abbrev pub LinksOrFails : Option Files → LinkCommand → ℕ → ℕ → Answer → Type 0
+LinksOrFails told link before now (answers.Refused fault) =
+    (HasLargeFile told link fault ⊎ HasObjectFault told link fault) × (now ≡ before)
+LinksOrFails told link before now answers.FileFault = HasFailed told link.objects before now
+LinksOrFails told link before now answers.Memory = now ≡ before
+LinksOrFails told link before now answer = ⊥

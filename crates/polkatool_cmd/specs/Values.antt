@@ -1,0 +1,38 @@
+-- What a word stands for: the name of a file, or a number.
+use Rattle.std.specs.Prelude.{ℕ, ◌+◌, ◌-◌, ◌*◌, List, [], ◌∷◌, Bool, false, ◌&&◌, not, ◌==◌, nat_lt, if◌then◌else◌, Option, Some, None}
+use Rattle.std.specs.Char.{is_ascii_digit}
+use Rattle.std.specs.Str.{is_utf8}
+
+-- a word that names a file: it is not empty, and UTF-8
+abbrev pub is_name : List ℕ → Bool
+is_name [] = false
+is_name (b ∷ bs) = is_utf8 (b ∷ bs)
+
+-- a word that begins with '-', as options do
+abbrev pub begins_with_dash : List ℕ → Bool
+begins_with_dash [] = false
+begins_with_dash (b ∷ bs) = b == 45
+
+-- a word that names a file, and is no option
+abbrev pub is_file : List ℕ → Bool
+is_file word = is_name word && not (begins_with_dash word)
+
+-- the number that decimal digits spell behind a number, where all bytes are digits
+unfoldable pub digits_behind : ℕ → List ℕ → Option ℕ
+digits_behind n [] = Some n
+digits_behind n (b ∷ bs) = if is_ascii_digit b then digits_behind (10 * n + (b - 48)) bs else None
+
+-- a number below a bound
+abbrev pub below : ℕ → Option ℕ → Option ℕ
+below bound None = None
+below bound (Some n) = if nat_lt n bound then Some n else None
+
+-- The number below a bound that a word spells: decimal digits without a leading zero, but for 0 itself.
+abbrev pub number_below : ℕ → List ℕ → Option ℕ
+number_below bound [] = None
+number_below bound (b ∷ []) = below bound (digits_behind 0 (b ∷ []))
+number_below bound (b ∷ c ∷ bs) = if b == 48 then None else below bound (digits_behind 0 (b ∷ c ∷ bs))
+
+-- the name of a file that a word is
+abbrev pub file_of : List ℕ → Option (List ℕ)
+file_of word = if is_file word then Some word else None

@@ -1,0 +1,34 @@
+-- What stands outside the program, as contracts see it, and how a file is read from it.
+use Rattle.std.specs.Prelude.{◌≡◌, ◌≤◌, ◌⊎◌, ℕ, List, Option}
+use Rattle.outside.specs.Outside.{Files, Rose, Missing, AnswersWrite}
+use Rattle.elf_objects.specs.declared.fault.Fault.{Fault}
+
+-- What the folder and out tell, and how many reads, writes and puts the outside has failed.
+pub record World : Type 0 where
+  pub files : Option Files
+  pub reads : ℕ
+  pub writes : ℕ
+  pub out : Option (List ℕ)
+  pub puts : ℕ
+
+-- What a stream tells, out or err, and how many puts on it the outside has failed.
+pub record Stream : Type 0 where
+  pub text : Option (List ℕ)
+  pub puts : ℕ
+
+-- the name holds these bytes, where files are told: as after a write that succeeded
+abbrev pub Holds : Option Files → List ℕ → List ℕ → Type 0
+Holds = AnswersWrite
+
+-- the name holds a file, where files are told, and its first fault is this one, or it has none
+pub record HasFault (first_of : List ℕ → Option Fault) (files : Option Files) (name : List ℕ) (fault : Option Fault)
+    : Type 0 where
+  pub file : List ℕ
+  pub held : Holds files name file
+  pub first : first_of file ≡ fault
+
+-- The name of the file to read is missing or its read failed; all else is as before.
+pub record FailedRead (name : List ℕ) (old new : World) : Type 0 where
+  pub later : old.reads ≤ new.reads
+  pub cause : Rose old.reads new.reads ⊎ Missing old.files name
+  pub others : new ≡ record old { reads = new.reads }

@@ -1,0 +1,85 @@
+//! A link, as the words ask for it. It lends the words.
+
+ghost use Rattle.std.specs.Prelude.{◌<◌, ◌^◌, IsTrue};
+ghost use Rattle.polkatool_cmd.specs.LinkWords.{items, is_link};
+
+use crate::link_words::first_item;
+use outside::Bytes;
+use std::alloc::{AllocError, Global};
+use symbols::Wanted;
+
+/// The entry of a link, where the words name none.
+const DEFAULT_ENTRY: &[u8; 4] = b"main";
+
+/// A link: the words behind the verb, the name of the output's file, and how many bytes the stack has, fewer than 2^24.
+#[derive(Clone, Copy)]
+pub(crate) struct LinkCommand<'a> {
+    pub words: &'a [Bytes],
+    pub output: &'a str,
+    pub stack: u32,
+    ghost link: { IsTrue (is_link (items words.now)) },
+    ghost small: { stack < 2 ^ 24 },
+}
+
+impl<'a> LinkCommand<'a> {
+    ghost use Rattle.std.specs.Prelude.{◌≡◌, ◌≤◌, [], map, vec_len, IfOk, OnOk};
+    ghost use Rattle.polkatool_cmd.specs.LinkRead.{link_in};
+
+    /// The names of the objects' files, in the order of the words: at least one, and at most 1,024.
+    pub(crate) fn objects(&self, alloc: Global) -> Result<Vec<&'a str>, AllocError>
+        ensures names { IfOk result (λ names. map (λ name. name.now) names.items ≡ (link_in self.now).objects) }
+        ensures count { IfOk result (λ names. (1 ≤ vec_len names) × (vec_len names ≤ 1024)) }
+    {
+        let mut objects = Vec::new(alloc);
+        let mut rest = self.words;
+        while let Some((item, behind)) = first_item(rest) {
+            if let Some(object) = item.object() {
+                objects.push(object)?;
+            }
+            rest = behind;
+        }
+        Ok(objects)
+    }
+
+    /// What is wanted of the objects.
+    pub(crate) fn wanted(&self, alloc: Global) -> Result<Wanted, AllocError>
+        ensures { IfOk result (λ wanted. wanted ≡ (link_in self.now).wanted) }
+    {
+        let mut wanted = Wanted::new(alloc, self.stack);
+        self.add_entries(&mut wanted)?;
+        self.add_imports(&mut wanted)?;
+        Ok(wanted)
+    }
+
+    /// Adds the entries, `main` where the words name none.
+    fn add_entries(&self, wanted: &mut Wanted) -> Result<(), AllocError>
+        requires { wanted.old.entries ≡ [] }
+        ensures { OnOk result (wanted.new ≡ record wanted.old { entries = (link_in self.now).wanted.entries }) }
+    {
+        let mut rest = self.words;
+        while let Some((item, behind)) = first_item(rest) {
+            if let Some(name) = item.entry() {
+                wanted.entry(name)?;
+            }
+            rest = behind;
+        }
+        if wanted.entries() == 0 {
+            wanted.entry(DEFAULT_ENTRY)?;
+        }
+        Ok(())
+    }
+
+    fn add_imports(&self, wanted: &mut Wanted) -> Result<(), AllocError>
+        requires { wanted.old.imports ≡ [] }
+        ensures { OnOk result (wanted.new ≡ record wanted.old { imports = (link_in self.now).wanted.imports }) }
+    {
+        let mut rest = self.words;
+        while let Some((item, behind)) = first_item(rest) {
+            if let Some(import) = item.import() {
+                wanted.import(import.name, import.kind)?;
+            }
+            rest = behind;
+        }
+        Ok(())
+    }
+}

@@ -1,0 +1,308 @@
+//! The words of a link: its options and the names of its objects, in any order.
+
+ghost use Rattle.std.specs.Prelude.{◌≡◌, ◌+◌, ◌^◌, ◌<◌, [], ◌∷◌, length, Some, None, MatchOption, IfSome, if◌then◌else◌};
+ghost use Rattle.std.specs.Prelude.{option_map, option_copied, slice_get};
+ghost use Rattle.std.specs.List.{before_last, after_last, list_all};
+ghost use Rattle.symbols.specs.Wanted.{IsHostNumber};
+ghost use Rattle.polkatool_cmd.specs.LinkWords.{items, value_in, wanted_name, kind_of, import_of, is_equals_sign};
+ghost use Rattle.polkatool_cmd.specs.LinkWords.{output_in, entry_in, import_in, stack_in, object_in, is_of_link};
+ghost use Rattle.polkatool_cmd.specs.LinkWords.{outputs, entries, imports, stacks, objects, is_imported, repeats_import, is_link};
+ghost use Rattle.polkatool_cmd.specs.LinkWords.{link_command_of};
+ghost use Rattle.polkatool_cmd.specs.LinkRead.{item_of, read_import, counts_of, link_in};
+
+use crate::link_command::LinkCommand;
+use crate::values::{begins_with_dash, file, name, number_below};
+use outside::Bytes;
+use symbols::ImportKind;
+
+/// The bytes of a stack, where the words don't say.
+const DEFAULT_STACK: u32 = 65_536;
+
+/// The most objects of a link.
+const MAX_OBJECTS: usize = 1024;
+
+/// The most entries of a link.
+const MAX_ENTRIES: usize = 1000;
+
+/// The most imports of a link.
+const MAX_IMPORTS: usize = 1000;
+
+/// An item of a command line.
+#[derive(Clone, Copy)]
+pub(crate) enum Item<'a> {
+    /// An option with its value.
+    Setting(&'a [u8], &'a [u8]),
+    /// An option at the end of the line, which has no value.
+    Unvalued(&'a [u8]),
+    /// A word that names a file.
+    File(&'a [u8]),
+}
+
+/// An undefined name that the host stands for.
+#[derive(Clone, Copy)]
+pub(crate) struct Import<'a> {
+    pub name: &'a [u8],
+    pub kind: ImportKind,
+}
+
+/// How many items of each kind there are.
+#[derive(Clone, Copy)]
+pub(crate) struct Counts {
+    pub outputs: usize,
+    pub entries: usize,
+    pub imports: usize,
+    pub stacks: usize,
+    pub objects: usize,
+}
+
+/// The link that the words behind the verb ask for. None where they are faulty. It takes no memory.
+pub(crate) fn link_command(words: &[Bytes]) -> Option<LinkCommand<'_>>
+    ensures { option_map link_in result ≡ link_command_of words.now }
+{
+    if !is_link(words) {
+        return None;
+    }
+    Some(LinkCommand {
+        words,
+        output: first_output(words)?,
+        stack: first_stack(words).unwrap_or(DEFAULT_STACK),
+    })
+}
+
+/// Whether words are a link.
+fn is_link(words: &[Bytes]) -> bool
+    ensures { result ≡ is_link (items words.now) }
+{
+    let Some(counts) = item_counts(words) else {
+        return false;
+    };
+    counts.outputs == 1
+        && counts.stacks <= 1
+        && counts.objects >= 1
+        && counts.objects <= MAX_OBJECTS
+        && counts.entries <= MAX_ENTRIES
+        && counts.imports <= MAX_IMPORTS
+        && !repeats_import(words)
+}
+
+/// How many items of each kind words have. None where one is not of a link.
+#[tactic(auto, using(crate::proofs::LinkItems::kind_within))]
+fn item_counts(words: &[Bytes]) -> Option<Counts>
+    ensures { result ≡ (if list_all is_of_link (items words.now) then Some (counts_of (items words.now)) else None) }
+{
+    let mut counts = Counts {
+        outputs: 0,
+        entries: 0,
+        imports: 0,
+        stacks: 0,
+        objects: 0,
+    };
+    let mut rest = words;
+    while let Some((item, behind)) = first_item(rest) {
+        if !item.is_of_link() {
+            return None;
+        }
+        counts.outputs = count_with(counts.outputs, item.output().is_some());
+        counts.entries = count_with(counts.entries, item.entry().is_some());
+        counts.imports = count_with(counts.imports, item.import().is_some());
+        counts.stacks = count_with(counts.stacks, item.stack().is_some());
+        counts.objects = count_with(counts.objects, item.object().is_some());
+        rest = behind;
+    }
+    Some(counts)
+}
+
+/// A count, with one more where that was found.
+fn count_with(count: usize, found: bool) -> usize
+    requires { count < usize.MAX }
+    ensures { result ≡ (if found then count + 1 else count) }
+{
+    if found { count + 1 } else { count }
+}
+
+/// The name of the first output.
+fn first_output(words: &[Bytes]) -> Option<&str>
+    ensures { option_copied result ≡ slice_get (outputs (items words.now)) 0 }
+{
+    let mut rest = words;
+    while let Some((item, behind)) = first_item(rest) {
+        if let Some(output) = item.output() {
+            return Some(output);
+        }
+        rest = behind;
+    }
+    None
+}
+
+/// How many bytes the first stack has.
+fn first_stack(words: &[Bytes]) -> Option<u32>
+    ensures first { result ≡ slice_get (stacks (items words.now)) 0 }
+    ensures small { IfSome result (λ stack. stack < 2 ^ 24) }
+{
+    let mut rest = words;
+    while let Some((item, behind)) = first_item(rest) {
+        if let Some(stack) = item.stack() {
+            return Some(stack);
+        }
+        rest = behind;
+    }
+    None
+}
+
+/// Whether a name is imported twice.
+fn repeats_import(words: &[Bytes]) -> bool
+    ensures { result ≡ repeats_import (imports (items words.now)) }
+{
+    let mut rest = words;
+    while let Some((item, behind)) = first_item(rest) {
+        if let Some(import) = item.import()
+            && is_imported(import.name, behind)
+        {
+            return true;
+        }
+        rest = behind;
+    }
+    false
+}
+
+/// Whether words import a name.
+fn is_imported(name: &[u8], words: &[Bytes]) -> bool
+    ensures { result ≡ is_imported name.now (imports (items words.now)) }
+{
+    let mut rest = words;
+    while let Some((item, behind)) = first_item(rest) {
+        if let Some(import) = item.import()
+            && import.name == name
+        {
+            return true;
+        }
+        rest = behind;
+    }
+    false
+}
+
+/// The first item of words, and the words behind it.
+pub(crate) fn first_item(words: &[Bytes]) -> Option<(Item<'_>, &[Bytes])>
+    ensures cut { MatchOption result
+        (items words.now ≡ [])
+        (λ found. items words.now ≡ item_of found.0 ∷ items found.1.now) }
+    ensures shorter { IfSome result (λ found. length found.1.now < length words.now) }
+{
+    let (word, rest) = words.split_first()?;
+    let word = word.as_slice();
+    if !begins_with_dash(word) {
+        return Some((Item::File(word), rest));
+    }
+    match rest.split_first() {
+        Some((value, behind)) => Some((Item::Setting(word, value.as_slice()), behind)),
+        None => Some((Item::Unvalued(word), rest)),
+    }
+}
+
+impl<'a> Item<'a> {
+    /// Whether the item is an output, an entry, an import, a stack or an object.
+    fn is_of_link(&self) -> bool
+        ensures { result ≡ is_of_link (item_of self.now) }
+    {
+        self.output().is_some()
+            || self.entry().is_some()
+            || self.import().is_some()
+            || self.stack().is_some()
+            || self.object().is_some()
+    }
+
+    /// The name of the output's file.
+    fn output(&self) -> Option<&'a str>
+        ensures { option_copied result ≡ output_in (item_of self.now) }
+    {
+        name(self.value(b"-o")?)
+    }
+
+    /// The name of an entry.
+    pub(crate) fn entry(&self) -> Option<&'a [u8]>
+        ensures { option_copied result ≡ entry_in (item_of self.now) }
+    {
+        wanted_name(self.value(b"-e")?)
+    }
+
+    /// An import, under the option `-i`.
+    pub(crate) fn import(&self) -> Option<Import<'a>>
+        ensures import { option_map read_import result ≡ import_in (item_of self.now) }
+        ensures number { IfSome result (λ import. IsHostNumber import.kind) }
+    {
+        import_of(self.value(b"-i")?)
+    }
+
+    /// How many bytes the stack has.
+    fn stack(&self) -> Option<u32>
+        ensures stack { result ≡ stack_in (item_of self.now) }
+        ensures small { IfSome result (λ stack. stack < 2 ^ 24) }
+    {
+        number_below(self.value(b"--stack")?, 1 << 24)
+    }
+
+    /// The name of an object's file.
+    pub(crate) fn object(&self) -> Option<&'a str>
+        ensures { option_copied result ≡ object_in (item_of self.now) }
+    {
+        match *self {
+            Item::File(word) => file(word),
+            _ => None,
+        }
+    }
+
+    /// The value that the item gives this option.
+    fn value(&self, option: &[u8]) -> Option<&'a [u8]>
+        ensures { option_copied result ≡ value_in option.now (item_of self.now) }
+    {
+        match *self {
+            Item::Setting(name, value) if name == option => Some(value),
+            _ => None,
+        }
+    }
+}
+
+/// The import that NAME=NUMBER or NAME=sbrk spells, where NAME ends at the last '='.
+fn import_of(value: &[u8]) -> Option<Import<'_>>
+    ensures import { option_map read_import result ≡ import_of value.now }
+    ensures number { IfSome result (λ import. IsHostNumber import.kind) }
+{
+    let (name, kind) = split_at_last_equals_sign(value);
+    Some(Import {
+        name: wanted_name(name)?,
+        kind: kind_of(kind)?,
+    })
+}
+
+/// What stands before the last '=' of a value, and what stands behind it. Where it has none, all stands behind.
+fn split_at_last_equals_sign(value: &[u8]) -> (&[u8], &[u8])
+    ensures before { result.0.now ≡ before_last is_equals_sign value.now }
+    ensures behind { result.1.now ≡ after_last is_equals_sign value.now }
+{
+    let mut end = value.len();
+    while end > 0 {
+        if value[end - 1] == b'=' {
+            return (&value[..end - 1], &value[end..]);
+        }
+        end -= 1;
+    }
+    (&value[..0], value)
+}
+
+/// The name of an entry or an import: any bytes, and not none.
+fn wanted_name(word: &[u8]) -> Option<&[u8]>
+    ensures { option_copied result ≡ wanted_name word.now }
+{
+    if word.is_empty() { None } else { Some(word) }
+}
+
+/// What an import stands for.
+fn kind_of(word: &[u8]) -> Option<ImportKind>
+    ensures kind { result ≡ kind_of word.now }
+    ensures number { IfSome result IsHostNumber }
+{
+    if word == b"sbrk".as_slice() {
+        return Some(ImportKind::Sbrk);
+    }
+    Some(ImportKind::Host(number_below(word, 1 << 31)?))
+}
