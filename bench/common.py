@@ -1,21 +1,36 @@
-"""What the scripts of this folder share: their words, and how a value is held against its bar."""
+"""What the scripts of this folder share: their words, the time and memory of a run, and values against their bars."""
 import argparse
+import ctypes
 import os
+import subprocess
 import sys
+import time
 
 ROOT = os.path.dirname(os.path.dirname(os.path.abspath(__file__)))
+BAD_COMMAND_LINE = 2  # the status of a run without words
+PR_SET_CHILD_SUBREAPER = 36
+
+
+def parser(rounds):
+    """The words that each script takes: the program that is to be measured, and in how many rounds."""
+    a = argparse.ArgumentParser()
+    a.add_argument("program", nargs="?", default=os.path.join(ROOT, "crates", "polkatool", "out", "polkatool"))
+    a.add_argument("--rounds", type=int, default=rounds)
+    return a
+
+
+def program_in(options):
+    """The program that the words name, which has to be there."""
+    program = os.path.abspath(options.program)
+    if not os.access(program, os.X_OK):
+        sys.exit("%s isn't there; the script polkatool at the top of the repository builds it" % program)
+    return program
 
 
 def asked(rounds):
     """The program that is to be measured and in how many rounds, by the words of the command line."""
-    a = argparse.ArgumentParser()
-    a.add_argument("program", nargs="?", default=os.path.join(ROOT, "crates", "polkatool", "out", "polkatool"))
-    a.add_argument("--rounds", type=int, default=rounds)
-    o = a.parse_args()
-    program = os.path.abspath(o.program)
-    if not os.access(program, os.X_OK):
-        sys.exit("%s isn't there; the script polkatool at the top of the repository builds it" % program)
-    return program, o.rounds
+    o = parser(rounds).parse_args()
+    return program_in(o), o.rounds
 
 
 def judged(what, value, bar):
@@ -23,3 +38,32 @@ def judged(what, value, bar):
     ok = value <= bar
     print("%s %.3f, bar %g: %s" % (what, value, bar, "ok" if ok else "over the bar"))
     return ok
+
+
+def seconds(words):
+    """The seconds of a run, and the run itself with what it wrote."""
+    begin = time.perf_counter()
+    done = subprocess.run(words, capture_output=True, stdin=subprocess.DEVNULL)
+    return time.perf_counter() - begin, done
+
+
+def peak(words, wanted):
+    """The greatest resident size, in bytes, of a run of these words that has to end with the wanted status.
+
+    The kernel counts for a process what its parent held when it made it. So a shell, which holds little, makes the
+    process in the background and ends, and the process then becomes a child of this one.
+    """
+    if ctypes.CDLL(None).prctl(PR_SET_CHILD_SUBREAPER, 1, 0, 0, 0) != 0:
+        sys.exit("the peak memory of a process can't be told here")
+    for _ in range(20):
+        quiet = dict.fromkeys(("stdin", "stdout", "stderr"), subprocess.DEVNULL)
+        shell = subprocess.Popen(["/bin/sh", "-c", '"$@" & exec true', "sh", *words], **quiet)
+        shell.wait()
+        try:
+            _, status, used = os.wait4(-1, 0)
+        except ChildProcessError:
+            continue  # it ended before the shell did, and the shell took its numbers
+        if os.waitstatus_to_exitcode(status) != wanted:
+            sys.exit("%s ended with status %d, and not %d" % (words, os.waitstatus_to_exitcode(status), wanted))
+        return used.ru_maxrss * 1024
+    sys.exit("the peak memory of a process can't be told here")

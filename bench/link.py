@@ -14,15 +14,12 @@ object and container together. Each answer is compared with what it has to be.
 Times and ratios of one run mean something, as machines differ. The status is 0 where both last lines say ok, else 1. It
 runs on Linux alone.
 """
-import ctypes
 import os
-import subprocess
 import sys
 import tempfile
-import time
 
 sys.dont_write_bytecode = True
-from common import ROOT, asked, judged
+from common import BAD_COMMAND_LINE, ROOT, asked, judged, peak, seconds
 
 sys.path.insert(0, os.path.join(ROOT, "examples", "five"))
 from make import object_of
@@ -31,20 +28,12 @@ SIZES = (2**16, 2**18, 2**20)
 TIME_BAR = 1.5  # time a word of the longest text over that of the shortest
 MEMORY_BAR = 12  # bytes of memory a byte of object and container
 ADDI, RET = 0x00150513, 0x00008067
-BAD_COMMAND_LINE = 2  # the status of a run without words
 MAP = b"entry 0 00000005 main\n"
-PR_SET_CHILD_SUBREAPER = 36
 
 
 def code_of(count):
     """The code that stands in the container: the entry jump, and each word's instruction."""
     return bytes.fromhex("2805000000") + bytes.fromhex("957701") * (count - 1) + bytes.fromhex("3200")
-
-
-def seconds(words):
-    begin = time.perf_counter()
-    done = subprocess.run(words, capture_output=True, stdin=subprocess.DEVNULL)
-    return time.perf_counter() - begin, done
 
 
 def timed_link(program, source, target, count):
@@ -58,27 +47,6 @@ def timed_link(program, source, target, count):
         if code_of(count) not in file.read():
             sys.exit("a link of %d words wrote another code" % count)
     return took
-
-
-def peak(words, wanted):
-    """The greatest resident size, in bytes, of a run of these words that has to end with the wanted status.
-
-    The kernel counts for a process what its parent held when it made it. So a shell, which holds little, makes the
-    process in the background and ends, and the process then becomes a child of this one.
-    """
-    if ctypes.CDLL(None).prctl(PR_SET_CHILD_SUBREAPER, 1, 0, 0, 0) != 0:
-        sys.exit("the peak memory of a process can't be told here")
-    for _ in range(20):
-        shell = subprocess.Popen(["/bin/sh", "-c", '"$@" & exec true', "sh", *words], stdin=subprocess.DEVNULL, stdout=subprocess.DEVNULL, stderr=subprocess.DEVNULL)
-        shell.wait()
-        try:
-            _, status, used = os.wait4(-1, 0)
-        except ChildProcessError:
-            continue  # it ended before the shell did, and the shell took its numbers
-        if os.waitstatus_to_exitcode(status) != wanted:
-            sys.exit("%s ended with status %d, and not %d" % (words, os.waitstatus_to_exitcode(status), wanted))
-        return used.ru_maxrss * 1024
-    sys.exit("the peak memory of a process can't be told here")
 
 
 def measure(program, rounds, folder):
