@@ -8,7 +8,8 @@ use Rattle.machine_state.specs.Memory as model
 use Rattle.machine_state.specs.Output.{page_at}
 use Rattle.page_memory.specs.Access.{page_allows, is_refused, next_address, least_of, least_refused, touched, byte_of, with_byte, with_byte_in, with_bytes}
 use Rattle.page_memory.specs.Ranges.{is_barred, IsLeastBarred}
-use Rattle.page_memory.proofs.Within.{get_put, same_number}
+use Rattle.page_memory.proofs.Ranges.{seen_at}
+use Rattle.page_memory.proofs.Within.{same_number}
 
 below_end : (at : ℕ) → next_address at < 2 ^ 32
 below_end at = omega arith
@@ -175,7 +176,7 @@ same_mode false writing mode bytes other o h = refl
 mode_stays : (o : Option model.Page) (writing : Bool) (b at a : ℕ) (m : model.Memory) → page_at m at ≡ o → page_allows writing (page_at (with_byte_in m at b o) a) ≡ page_allows writing (page_at m a)
 mode_stays None writing b at a m h = refl
 mode_stays (Some page) writing b at a m h =
-    ap (page_allows writing) (get_put m (at / 4096) _ (a / 4096))
+    ap (page_allows writing) (seen_at m (at / 4096) (Some _) (a / 4096))
     ∙ same_mode (nat_eq (a / 4096) (at / 4096)) writing page.mode page.bytes _ (page_at m a) (λ e. ap (map.get m) (same_number (a / 4096) (at / 4096) e) ∙ h)
 
 -- bytes that are stored leave what each address may

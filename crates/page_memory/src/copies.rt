@@ -8,10 +8,10 @@ use crate::access::access_of;
 use crate::memory::Memory;
 use crate::mode::Access;
 
-/// Loads and stores of any count of bytes below 2^32. They are refused and told as those of numbers are, and go over the
-/// bytes page by page.
+/// Loads and stores of bytes. They are refused as those of numbers are, and go over the bytes page by page.
 impl Memory {
-    /// Stores bytes from an address on.
+    /// Stores fewer than 2^32 bytes at the addresses from one on, taken modulo 2^32. Where one of these may not be
+    /// written, the least of them is told and nothing changes.
     #[inline]
     pub fn copy_in(&mut self, at: u32, bytes: &[u8]) -> Result<(), Access>
         requires { length bytes.now < 2 ^ 32 }
@@ -39,7 +39,8 @@ impl Memory {
         }
     }
 
-    /// Loads as many bytes as there is place for, from an address on.
+    /// Loads the bytes at the addresses from one on, taken modulo 2^32: as many as there is place for, fewer than 2^32.
+    /// Where one of these may not be read, the least of them is told and the place stays as it is.
     pub fn copy_out(&self, at: u32, into: &mut [u8]) -> Result<(), Access>
         requires { length into.old < 2 ^ 32 }
         ensures answer { result ≡ told (load_answer self.now at (length into.old)) }

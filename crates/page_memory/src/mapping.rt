@@ -13,8 +13,8 @@ use std::collections::BTreeMap;
 
 /// Pages that come, go and change their mode. Only `map` takes memory.
 impl Memory {
-    /// Makes the pages from a number on zero pages with a mode, those that the memory has too. It is full where it would
-    /// then have more pages than the limit. After `Full` and `Memory` nothing changed.
+    /// Makes the pages from a number on zero pages with a mode, those that the memory has too. It is full where it
+    /// would then have more pages than the limit. After `Full` and `Memory` nothing changed.
     pub fn map(&mut self, first: u32, count: u32, mode: Mode, limit: u32) -> Result<(), MapFault>
         requires low { 16 ≤ first }
         requires high { first + count ≤ 2 ^ 20 }

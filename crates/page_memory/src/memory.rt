@@ -57,7 +57,7 @@ impl Memory {
         self.mapped
     }
 
-    /// The mode of the page with a number. One that isn't in the memory is unmapped, as every number of 2^20 or more is.
+    /// The mode of the page with a number. One that isn't in the memory is unmapped, as is each from 2^20 on.
     #[tactic(auto, using(crate::proofs::Views::viewed))]
     pub fn mode(&self, page: u32) -> Mode
         ensures { result ≡ mode_of self.now page }
@@ -111,7 +111,7 @@ impl Memory {
         }
     }
 
-    /// Stores bytes from an address on, where they lie within one page and it may be written, and tells whether they do.
+    /// Stores bytes from an address on, where they lie within one page that may be written, and tells whether they do.
     #[inline]
     pub(crate) fn put(&mut self, at: u32, bytes: &[u8]) -> bool
         ensures answer { result ≡ takes (page_at self.old at) (at % 4096) (length bytes.now) }

@@ -7,8 +7,8 @@ use crate::memory::Memory;
 
 /// Ranges of bytes.
 impl Memory {
-    /// The least address of a range that may not be read, or written. The range does not wrap: an address of 2^32 or more
-    /// may be neither.
+    /// The least address of a range that may not be read, or written. The range does not wrap: an address of 2^32 or
+    /// more may be neither.
     pub fn refused(&self, at: u64, len: u64, writing: bool) -> Option<u64>
         ensures { IsLeastBarred self.now writing at len result }
     {
@@ -60,7 +60,7 @@ impl Memory {
         }
     }
 
-    /// The bytes of a range, without a copy, where it lies within one page and may be read. An empty range does everywhere.
+    /// The bytes of a range, without a copy, where it lies within one page that may be read. An empty one does always.
     pub fn lend(&self, at: u32, len: u32) -> Option<&[u8]>
         ensures { option_copied result ≡ lent self.now at len }
     {
