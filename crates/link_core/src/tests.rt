@@ -2,6 +2,7 @@ use super::*;
 use std::test::*;
 
 #[test]
+#[tactic(auto, unfolding(crate::specs::Parts::total))]
 fn keeps_files_apart_in_a_bundle(rt: HostRuntime) -> Result<(), Fail> {
     let mut bundle = Bundle::new(rt.alloc());
     assert_eq!(rt; bundle.len(), 0);
