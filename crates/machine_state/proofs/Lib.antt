@@ -1,2 +1,2 @@
 pub mod Registers
-pub mod Spans
+pub mod Frames

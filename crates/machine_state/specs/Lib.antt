@@ -5,4 +5,3 @@ pub mod Start
 pub mod Laws
 pub mod Codes
 pub mod Output
-pub mod Spans

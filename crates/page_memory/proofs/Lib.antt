@@ -4,3 +4,5 @@ pub mod Ranges
 pub mod Within
 pub mod Parts
 pub mod Steps
+pub mod Outcomes
+pub mod Filled

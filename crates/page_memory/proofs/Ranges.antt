@@ -68,7 +68,7 @@ before false first count q page rest e =
     let same : is_between first (first + suc count) q ≡ is_between (first + 1) (first + 1 + count) q = grind (arith, nat_tests) in
     rw same refl
 
-get-with_pages : (count first : ℕ) (mode : model.Mode) (m : model.Memory) (q : ℕ) →
+pub get-with_pages : (count first : ℕ) (mode : model.Mode) (m : model.Memory) (q : ℕ) →
     map.get (model.with_pages count first mode [] m) q ≡ (if is_between first (first + count) q then Some (record { mode = mode; bytes = replicate 4096 0 }) else map.get m q)
 unfolding model.with_pages
 get-with_pages zero first mode m q = let none : is_between first (first + 0) q ≡ false = grind (arith, nat_tests) in rw none refl

@@ -1,5 +1,5 @@
 -- How the pages of a memory are kept: an entry is a page of the memory only if it has a mode that allows something.
-use Rattle.std.specs.Prelude.{◌≡◌, ℕ, ◌+◌, ◌≤◌, ◌^◌, List, [], ◌∷◌, Bool, true, ◌&&◌, nat_le, slice_set, Option, Some, None}
+use Rattle.std.specs.Prelude.{◌≡◌, ℕ, ◌+◌, ◌-◌, ◌≤◌, ◌^◌, List, [], ◌∷◌, Bool, true, ◌&&◌, nat_lt, nat_le, if◌then◌else◌, slice_set, Option, Some, None}
 use Rattle.std.specs.FinMap as map
 use Rattle.machine_state.specs.Memory as model
 use Rattle.page_memory.specs.Access.{page_allows}
@@ -29,10 +29,14 @@ abbrev pub with_page : model.Memory → ℕ → Option model.Page → model.Memo
 with_page memory number None = map.remove memory number
 with_page memory number (Some page) = map.insert memory number page
 
--- the memory of some entries
+-- the key of a page number, and the page number of a key: the 32-bit numbers the other way round
+abbrev pub turned : ℕ → ℕ
+turned number = if nat_lt number (2 ^ 32) then 2 ^ 32 - 1 - number else number
+
+-- the memory of some entries, which stand under the keys of their pages
 unfoldable pub memory_of : List (ℕ × Kept) → model.Memory
 memory_of [] = model.no_memory
-memory_of (entry ∷ entries) = with_page (memory_of entries) entry.0 (page_of entry.1)
+memory_of (entry ∷ entries) = with_page (memory_of entries) (turned entry.0) (page_of entry.1)
 
 -- no page has a number of 2^20 or more
 abbrev pub HasAddresses : model.Memory → Type 0

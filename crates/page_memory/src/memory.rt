@@ -4,7 +4,7 @@ ghost use Rattle.machine_state.specs.Memory.{no_memory};
 ghost use Rattle.machine_state.specs.Output.{page_at};
 ghost use Rattle.page_memory.specs.Access.{byte_of, with_bytes, is_refused};
 ghost use Rattle.page_memory.specs.Answers.{mode_of};
-ghost use Rattle.page_memory.specs.Pages.{with_page, takes};
+ghost use Rattle.page_memory.specs.Pages.{turned, with_page, takes};
 ghost use Rattle.page_memory.specs.Mapping.{with_mode};
 
 use crate::mode::Mode;
@@ -58,11 +58,11 @@ impl Memory {
     }
 
     /// The mode of the page with a number. One that isn't in the memory is unmapped, as is each from 2^20 on.
-    #[tactic(auto, using(crate::proofs::Views::viewed))]
+    #[tactic(auto, using(crate::proofs::Views::viewed_at))]
     pub fn mode(&self, page: u32) -> Mode
         ensures { result ≡ mode_of self.now page }
     {
-        match self.pages.get(&page) {
+        match self.pages.get(&key_of(page)) {
             Some(found) => found.mode(),
             None => Mode::Unmapped,
         }
@@ -85,7 +85,7 @@ impl Memory {
         requires mapped { IsSome (map.get self.old page) }
         ensures { self.new ≡ with_page self.old page (with_mode mode (map.get self.old page)) }
     {
-        if let Some(found) = self.pages.get_mut(&page) {
+        if let Some(found) = self.pages.get_mut(&key_of(page)) {
             found.set_mode(mode);
         }
     }
@@ -95,29 +95,29 @@ impl Memory {
         ensures { self.new ≡ map.remove self.old page }
     {
         if self.has(page) {
-            self.pages.remove(&page);
+            self.pages.remove(&key_of(page));
             self.mapped -= 1;
         }
     }
 
     /// The byte at an address, and 0 where its page isn't in the memory.
-    #[tactic(auto, using(crate::proofs::Views::viewed))]
+    #[tactic(auto, using(crate::proofs::Views::viewed_at))]
     pub(crate) fn byte(&self, at: u32) -> u8
         ensures { result ≡ byte_of self.now at }
     {
-        match self.pages.get(&(at / 4096)) {
+        match self.pages.get(&key_of(at / 4096)) {
             Some(page) => page.byte((at % 4096) as usize),
             None => 0,
         }
     }
 
     /// Stores bytes from an address on, where they lie within one page that may be written, and tells whether they do.
-    #[inline]
+    #[inline(always)]
     pub(crate) fn put(&mut self, at: u32, bytes: &[u8]) -> bool
         ensures answer { result ≡ takes (page_at self.old at) (at % 4096) (length bytes.now) }
         ensures memory { self.new ≡ (if result then with_bytes self.old at bytes.now else self.old) }
     {
-        match self.pages.get_mut(&(at / 4096)) {
+        match self.pages.get_mut(&key_of(at / 4096)) {
             Some(page) => page.put((at % 4096) as usize, bytes),
             None => false,
         }
@@ -133,4 +133,13 @@ impl Memory {
             Mode::Writable => false,
         }
     }
+}
+
+/// The key that the page with a number is kept under. It turns the numbers round: a tree goes through the keys of a node
+/// from the least on, and the pages that are used most, the stack's and the argument's, have the greatest numbers.
+#[inline]
+pub(crate) fn key_of(page: u32) -> u32
+    ensures { result ≡ turned page }
+{
+    u32::MAX - page
 }

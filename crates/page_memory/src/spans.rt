@@ -3,7 +3,7 @@ ghost use Rattle.std.specs.Option.{option_copied};
 ghost use Rattle.page_memory.specs.Access.{least_refused, touched};
 ghost use Rattle.page_memory.specs.Ranges.{is_barred, IsLeastBarred, lent};
 
-use crate::memory::Memory;
+use crate::memory::{Memory, key_of};
 
 /// Ranges of bytes.
 impl Memory {
@@ -68,7 +68,7 @@ impl Memory {
     }
 
     /// What `lend` gives, which are the bytes that a load touches and isn't refused.
-    #[tactic(auto, using(crate::proofs::Views::viewed), unfolding(crate::specs::Access::least_refused, crate::specs::Access::touched))]
+    #[tactic(auto, using(crate::proofs::Views::viewed_at), unfolding(crate::specs::Access::least_refused, crate::specs::Access::touched))]
     pub(crate) fn view(&self, at: u32, len: u32) -> Option<&[u8]>
         ensures lent { option_copied result ≡ lent self.now at len }
         ensures whole { IfSome result (λ bytes. length bytes.now ≡ len) }
@@ -78,7 +78,7 @@ impl Memory {
         if len == 0 {
             return Some(&[]);
         }
-        match self.pages.get(&(at / 4096)) {
+        match self.pages.get(&key_of(at / 4096)) {
             Some(page) => page.lend((at % 4096) as usize, len as usize),
             None => None,
         }
