@@ -1,0 +1,4 @@
+pub mod SectionEnds
+mod Rounding
+mod Steps
+mod Placing

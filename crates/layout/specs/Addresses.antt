@@ -1,0 +1,83 @@
+-- Where the sections of the objects that aren't code are loaded. Those of a kind stand one behind the other in the order of
+-- objects and sections, each at the next multiple of its alignment (gABI, "Sections", sh_addralign): the read-only ones from
+-- 2^16 on, the writable ones where the standard start has them (JAM Gray Paper 0.7.0, appendix A), and those of zeros
+-- directly behind these.
+use Rattle.std.specs.Prelude.{ℕ, ◌+◌, ◌-◌, ◌*◌, ◌/◌, max, List, [], ◌∷◌, take, Bool, true, false, Option, Some, None, slice_get}
+use Rattle.elf_objects.specs.declared.parts.SectionKind.{SectionKind}
+use Rattle.elf_objects.specs.declared.parts.SectionKind.TheVariants as kinds
+use Rattle.elf_objects.specs.Objects.{Section, Object}
+use Rattle.symbols.specs.Parts.{object_at}
+use Rattle.symbols.specs.Wanted.{Given}
+use Rattle.machine_state.specs.Start.{pages_of, read_only_start, start_behind}
+use Rattle.layout.specs.Sections.{is_read_only, is_writable, is_zero, extent}
+
+-- the next multiple of an alignment from an address on; the alignment 0 is that of any byte
+abbrev pub aligned : ℕ → ℕ → ℕ
+aligned at align = (at + (max 1 align - 1)) / max 1 align * max 1 align
+
+-- where a section ends that is loaded at the next multiple of its alignment from an address on
+abbrev pub end_of : ℕ → Section → ℕ
+end_of at section = aligned at section.align + extent section
+
+-- where a section ends if it is of a kind, and else the address
+abbrev pub end_if : Bool → ℕ → Section → ℕ
+end_if true at section = end_of at section
+end_if false at section = at
+
+-- where the sections of a kind end, the first of which is loaded from an address on: those in a list, and those of objects
+unfoldable pub end_of_sections : (SectionKind → Bool) → ℕ → List Section → ℕ
+end_of_sections is_of at [] = at
+end_of_sections is_of at (section ∷ sections) = end_of_sections is_of (end_if (is_of section.kind) at section) sections
+
+unfoldable pub end_of_objects : (SectionKind → Bool) → ℕ → List Object → ℕ
+end_of_objects is_of at [] = at
+end_of_objects is_of at (object ∷ objects) = end_of_objects is_of (end_of_sections is_of at object.sections) objects
+
+-- where those end that stand before a section of an object
+abbrev pub end_before : (SectionKind → Bool) → ℕ → Given → ℕ → ℕ → ℕ
+end_before is_of at given o s =
+    end_of_sections is_of (end_of_objects is_of at (take o given.objects)) (take s (object_at given.objects o).sections)
+
+-- the read-only part: where it ends, and its bytes
+abbrev pub read_only_end : Given → ℕ
+read_only_end given = end_of_objects is_read_only read_only_start given.objects
+
+abbrev pub read_only_len : Given → ℕ
+read_only_len given = read_only_end given - read_only_start
+
+-- the writable part: where it begins and ends, and its bytes
+abbrev pub writable_start : Given → ℕ
+writable_start given = start_behind (read_only_len given)
+
+abbrev pub writable_end : Given → ℕ
+writable_end given = end_of_objects is_writable (writable_start given) given.objects
+
+abbrev pub writable_len : Given → ℕ
+writable_len given = writable_end given - writable_start given
+
+-- where the sections of zeros end
+abbrev pub zero_end : Given → ℕ
+zero_end given = end_of_objects is_zero (writable_end given) given.objects
+
+-- how many pages they need behind those of the writable part
+abbrev pub zero_pages : Given → ℕ
+zero_pages given = pages_of (zero_end given - writable_start given) - pages_of (writable_len given)
+
+-- the address of a section of a kind, which begins behind those before it
+abbrev pub address_of_kind : (SectionKind → Bool) → ℕ → Given → ℕ → ℕ → Section → ℕ
+address_of_kind is_of at given o s section = aligned (end_before is_of at given o s) section.align
+
+abbrev pub address_by : SectionKind → Given → ℕ → ℕ → Section → Option ℕ
+address_by kinds.Code given o s section = None
+address_by kinds.ReadOnly given o s section = Some (address_of_kind is_read_only read_only_start given o s section)
+address_by kinds.Writable given o s section = Some (address_of_kind is_writable (writable_start given) given o s section)
+address_by kinds.Zero given o s section = Some (address_of_kind is_zero (writable_end given) given o s section)
+address_by kinds.Unloaded given o s section = None
+
+abbrev pub address_in : Given → ℕ → ℕ → Option Section → Option ℕ
+address_in given o s None = None
+address_in given o s (Some section) = address_by section.kind given o s section
+
+-- the address of a section of an object, by their numbers: code has none, nor what isn't loaded
+abbrev pub address_of : Given → ℕ → ℕ → Option ℕ
+address_of given o s = address_in given o s (slice_get (object_at given.objects o).sections s)
