@@ -2,6 +2,7 @@
 use Rattle.std.proofs.Common.{◌≡◌, ℕ, zero, suc, ◌+◌, ◌≤◌, List, [], ◌∷◌, get_or, map, true, false, length, Bool, Option, Some, None, refl, sym, ap, ◌∙◌, arith, add-one}
 use Rattle.std.specs.Prelude.{slice_get, if◌then◌else◌}
 use Rattle.std.proofs.lemmas.Option.{slice_get_past, slice_get_within, slice_get-get_or}
+use Rattle.numbers.specs.Words.{word_of}
 use Rattle.arithmetic.specs.Operations.{holds}
 use Rattle.rv_decode.specs.declared.ops.RvOp.{RvOp}
 use Rattle.rv_decode.specs.declared.ops.RvOp.TheVariants as rv
@@ -10,6 +11,7 @@ use Rattle.runs.specs.Numbers.{to_named}
 use Rattle.runs.specs.Laid.{GoesOn, LaidAt}
 use Rattle.machine_state.specs.State.{State}
 use Rattle.machine_state.specs.Ends.{End, Host, halt, rules}
+use Rattle.page_memory.proofs.Outcomes.{loads_by, stores_by}
 use Rattle.symbols.specs.Wanted.{Given}
 use Rattle.relocs.specs.Places.{CodePlace, Nowhere, next_place}
 use Rattle.relocs.specs.Words.{raw_at}
@@ -17,7 +19,7 @@ use Rattle.relocs.specs.AddressMap.{needed_places}
 use Rattle.lift_blocks.specs.Arithmetic.{of_cond}
 use Rattle.lift_blocks.specs.Operations.{Operation, Plain, Branch, Jal, Jalr, Pair, HostCall, Sbrk, rename, placed_op, operation_at}
 use Rattle.lift_blocks.specs.Listed.{place, or_nowhere, some_if, can_go_on}
-use Rattle.lift_blocks.specs.Step.{plain_does, op_does, value, with_value, behind, fetch_op}
+use Rattle.lift_blocks.specs.Step.{load_bytes, load_has_sign, store_bytes, plain_does, op_does, value, with_value, behind, fetch_op}
 use Rattle.lift_blocks.specs.Laws.{SourceLock}
 use Rattle.lift_blocks.proofs.Renamed.{does_renamed}
 use Rattle.lift_blocks.proofs.Order.{next_listed}
@@ -38,8 +40,8 @@ plain_goes (rv.Auipc rd v) s next behind h = h refl
 plain_goes (rv.Jal rd offset) s next behind h = tt
 plain_goes (rv.Jalr rd rs1 i) s next behind h = tt
 plain_goes (rv.Branch cond rs1 rs2 offset) s next behind h = tt
-plain_goes (rv.Load width rd rs1 i) s next behind h = tt
-plain_goes (rv.Store width rs1 rs2 i) s next behind h = tt
+plain_goes (rv.Load width rd rs1 i) s next behind h = loads_by (GoesOn {Target = ℕ} next behind) (λ x. with_value s rd x) (load_has_sign width) (load_bytes width) (value s rs1 + word_of i) s (λ number. h refl) (λ end. tt)
+plain_goes (rv.Store width rs1 rs2 i) s next behind h = stores_by (GoesOn {Target = ℕ} next behind) (store_bytes width) (value s rs1 + word_of i) (value s rs2) s (λ memory. h refl) (λ end. tt)
 plain_goes (rv.OpImm op rd rs1 i) s next behind h = h refl
 plain_goes (rv.Op op rd rs1 rs2) s next behind h = h refl
 plain_goes rv.Fence s next behind h = h refl

@@ -1,10 +1,9 @@
 -- The places of the source machine, in code order.
 use Rattle.std.specs.Prelude.{ℕ, zero, suc, ◌+◌, ◌/◌, List, [], ◌∷◌, ◌++◌, length, Option, Some, None, Bool, true, false, ◌&&◌, nat_eq, if◌then◌else◌, slice_get}
 use Rattle.std.specs.List.{list_any}
-use Rattle.elf_objects.specs.declared.parts.SectionKind.{SectionKind}
-use Rattle.elf_objects.specs.declared.parts.SectionKind.TheVariants as kinds
 use Rattle.elf_objects.specs.Objects.{Section, Object}
 use Rattle.symbols.specs.Wanted.{Given}
+use Rattle.layout.specs.Sections.{is_code}
 
 -- A place: an offset in bytes of a code section, or one of the operations of a stub, which stands for an import.
 -- Nowhere is what a list of places has past its end.
@@ -12,13 +11,6 @@ pub data CodePlace : Type 0 where
   Code : (object section offset : ℕ) → CodePlace
   Stub : (number at : ℕ) → CodePlace
   Nowhere : CodePlace
-
-abbrev pub is_code : SectionKind → Bool
-is_code kinds.Code = true
-is_code kinds.ReadOnly = false
-is_code kinds.Writable = false
-is_code kinds.Zero = false
-is_code kinds.Unloaded = false
 
 -- which sections the program takes: all, so far
 abbrev pub is_kept : Given → ℕ → ℕ → Bool

@@ -3,7 +3,7 @@ use Rattle.std.specs.Prelude.{ℕ, zero, ◌+◌, ◌%◌, pos, List, take, drop
 use Rattle.numbers.specs.Bytes.{number_of}
 use Rattle.rv_decode.specs.declared.ops.Reg.TheVariants.{Zero, R}
 use Rattle.rv_decode.specs.declared.ops.RvOp.{RvOp}
-use Rattle.rv_decode.specs.declared.ops.RvOp.TheVariants.{Lui, Jalr, OpImm, Op, Fence, Trap}
+use Rattle.rv_decode.specs.declared.ops.RvOp.TheVariants.{Lui, Jalr, Load, Store, OpImm, Op, Fence, Trap}
 use Rattle.rv_decode.specs.declared.ops.WordFault.{WordFault}
 use Rattle.rv_decode.specs.declared.ops.WordFault.TheVariants.{BadWord}
 use Rattle.rv_decode.specs.Operations.{operation}
@@ -14,10 +14,12 @@ use Rattle.relocs.specs.Places.{CodePlace, Code, Stub, Nowhere, code_at}
 abbrev pub word_at : List ℕ → ℕ → ℕ
 word_at bytes offset = number_of (take 4 (drop offset bytes))
 
--- The operations that are linked so far: those on registers and immediates, lui, fence and the traps, and ret, which is
--- jalr x0, 0(x1).
+-- The operations that are linked so far: those on registers and immediates, lui, loads, stores, fence and the traps,
+-- and ret, which is jalr x0, 0(x1).
 abbrev pub is_linked : RvOp → Bool
 is_linked (Lui rd value) = true
+is_linked (Load width rd rs1 imm) = true
+is_linked (Store width rs1 rs2 imm) = true
 is_linked (OpImm op rd rs1 imm) = true
 is_linked (Op op rd rs1 rs2) = true
 is_linked Fence = true
