@@ -1,29 +1,100 @@
--- What a start lets read, by the four parts of its memory.
-use Rattle.std.proofs.Common.{◌≡◌, ℕ, ◌+◌, ◌-◌, ◌*◌, ◌<◌, ◌≤◌, Bool, true, false, ◌&&◌, ◌||◌, List, length, refl, sym, ◌∙◌}
-use Rattle.std.specs.Prelude.{◌/◌, ◌^◌, nat_le}
-use Rattle.machine_state.specs.Memory.{page_size}
-use Rattle.machine_state.specs.Start.{Image, pages_of, writable_start, stack_end, argument_start, start_memory}
-use Rattle.machine_state.specs.Output.{range_readable}
-use Rattle.machine_state.specs.Spans.{IsImage}
-use Rattle.machine_state.proofs.Spans.{start_is_readable}
+-- Ranges that may be read: none of their addresses is barred. Stores bring no page.
+use Rattle.std.proofs.Common.{◌≡◌, ℕ, zero, suc, ◌+◌, ◌<◌, ◌≤◌, ◌^◌, Bool, true, false, List, Option, Some, None, refl, ap, sym, subst, ◌∙◌, arith, inl, inr, slice_index}
+use Rattle.std.specs.Prelude.{◌*◌, ◌/◌, ◌&&◌, not, nat_le, nat_lt, if◌then◌else◌}
+use Rattle.std.specs.Option.{is_some}
+use Rattle.std.specs.FinMap as map
+use Rattle.std.proofs.lemmas.Bool.{cases_lt}
+use Rattle.std.proofs.lemmas.Bool.Decides.{nat_tests}
+use Rattle.numbers.specs.Bytes.{little}
+use Rattle.machine_state.specs.Memory.{Mode, Readable, Writable, Page, Memory}
+use Rattle.machine_state.specs.Output.{is_readable, all_from, range_readable, output_range}
+use Rattle.page_memory.specs.Access.{mode_allows, page_allows, least_refused, with_bytes, stored, store}
+use Rattle.page_memory.proofs.Parts.{modes_stay}
+use Rattle.page_memory.specs.Ranges.{is_barred, IsLeastBarred}
+use Rattle.pvm_machine.specs.Machine.{HasNoLowPage}
 
-regrouped : (a b c d : Bool) → (((a || b) || c) || d) ≡ (a || (b || (c || (d || false))))
-regrouped true b c d = refl
-regrouped false true c d = refl
-regrouped false false true d = refl
-regrouped false false false true = refl
-regrouped false false false false = refl
+readable_any : (mode : Mode) → mode_allows false mode ≡ true
+readable_any Readable = refl
+readable_any Writable = refl
 
--- so many pages from a page on hold the range
-abbrev holds : ℕ → ℕ → ℕ → ℕ → Bool
-holds first count at end = nat_le (page_size * first) at && nat_le end (page_size * (first + count))
+allows_is : (o : Option Page) → page_allows false o ≡ is_some o
+allows_is None = refl
+allows_is (Some page) = readable_any page.mode
 
--- one of the four parts holds the range
-pub in_parts : (image : Image) (argument : List ℕ) → IsImage image → length argument ≤ 2 ^ 24 → (at len : ℕ) → 0 < len → (a b c d : Bool)
-    → a ≡ holds 16 (pages_of (length image.read_only)) at (at + len)
-    → b ≡ holds (writable_start image / page_size) (pages_of (length image.writable) + image.zero_pages) at (at + len)
-    → c ≡ holds (stack_end / page_size - pages_of image.stack) (pages_of image.stack) at (at + len)
-    → d ≡ holds (argument_start / page_size) (pages_of (length argument)) at (at + len)
-    → (((a || b) || c) || d) ≡ range_readable (start_memory image argument) at len
-in_parts image argument is_image few at len some a b c d is_a is_b is_c is_d =
-    regrouped a b c d ∙ rw (is_a, is_b, is_c, is_d) (sym (start_is_readable image argument is_image few at len some))
+-- an address below 2^32 is barred where no page may be read
+barred_is : (memory : Memory) (address : ℕ) → address < 2 ^ 32 → is_barred memory false address ≡ not (is_readable memory address)
+barred_is memory address below =
+    let test : nat_le (2 ^ 32) address ≡ false = grind (arith, nat_tests) in
+    rw (test, allows_is (map.get memory _)) refl
+
+not_false : (b : Bool) → not b ≡ false → b ≡ true
+not_false true e = refl
+not_false false e = cc
+
+not_true : (b : Bool) → not b ≡ true → b ≡ false
+not_true true e = cc
+not_true false e = refl
+
+and_false : (b : Bool) → (b && false) ≡ false
+and_false true = refl
+and_false false = refl
+
+-- no address of the range is barred
+all_readable : (len at : ℕ) (memory : Memory) → at + len ≤ 2 ^ 32 → ((a : ℕ) → at ≤ a → a < at + len → is_barred memory false a ≡ false) → range_readable memory at len ≡ true
+unfolding all_from
+all_readable zero at memory end free = refl
+all_readable (suc len) at memory end free =
+    let here : is_readable memory at ≡ true = not_false _ (sym (barred_is memory at (omega arith)) ∙ free at (omega arith) (omega arith)) in
+    rw (here, all_readable len (at + 1) memory (omega arith) (λ a low high. free a (omega arith) (omega arith))) refl
+
+-- one address of the range is barred
+one_barred : (len at least : ℕ) (memory : Memory) → at + len ≤ 2 ^ 32 → at ≤ least → least < at + len → is_barred memory false least ≡ true → range_readable memory at len ≡ false
+unfolding all_from
+one_barred zero at least memory end low high barred = absurd (omega arith)
+one_barred (suc len) at least memory end low high barred = elim (cases_lt at least) [
+  | inl less ↦ rw (one_barred len (at + 1) least memory (omega arith) (omega arith) (omega arith) barred) (and_false (is_readable memory at))
+  | inr not_less ↦
+      let same : least ≡ at = omega arith in
+      let here : is_readable memory at ≡ false = not_true _ (sym (barred_is memory at (omega arith)) ∙ ap (is_barred memory false) (sym same) ∙ barred) in
+      rw here refl
+]
+
+module _ (registers : List ℕ) (memory : Memory) (o : Option ℕ) (some : 0 < slice_index registers 8) (end : slice_index registers 7 + slice_index registers 8 ≤ 2 ^ 32) (least : IsLeastBarred memory false (slice_index registers 7) (slice_index registers 8) o) where
+  readable_by : (r : Bool) → range_readable memory (slice_index registers 7) (slice_index registers 8) ≡ r → output_range registers memory ≡ (if r then Some (slice_index registers 7, slice_index registers 8) else None)
+  readable_by r e =
+      let has : nat_lt 0 (slice_index registers 8) ≡ true = grind (arith, nat_tests) in
+      let ends : nat_le (slice_index registers 7 + slice_index registers 8) (2 ^ 32) ≡ true = grind (arith, nat_tests) in
+      rw (has, ends, e) refl
+
+  none_barred : (o : Option ℕ) → IsLeastBarred memory false (slice_index registers 7) (slice_index registers 8) o → is_some o ≡ false → range_readable memory (slice_index registers 7) (slice_index registers 8) ≡ true
+  none_barred None free e = all_readable (slice_index registers 8) (slice_index registers 7) memory end free
+  none_barred (Some at) free e = cc
+
+  some_barred : (o : Option ℕ) → IsLeastBarred memory false (slice_index registers 7) (slice_index registers 8) o → is_some o ≡ true → range_readable memory (slice_index registers 7) (slice_index registers 8) ≡ false
+  some_barred None free e = cc
+  some_barred (Some at) free e = one_barred (slice_index registers 8) (slice_index registers 7) at memory end free.0 free.1 free.2
+
+  -- what is told of barred addresses is where the output stands
+  pub output_free : is_some o ≡ false → output_range registers memory ≡ Some (slice_index registers 7, slice_index registers 8)
+  output_free e = readable_by true (none_barred o least e)
+
+  pub output_barred : is_some o ≡ true → output_range registers memory ≡ None
+  output_barred e = readable_by false (some_barred o least e)
+
+none_of : (o : Option Page) → is_some o ≡ false → o ≡ None
+none_of None e = refl
+none_of (Some page) e = cc
+
+-- bytes that are stored bring no page
+none_stays : (memory : Memory) (at number : ℕ) (bytes : List ℕ) → map.get memory number ≡ None → map.get (with_bytes memory at bytes) number ≡ None
+none_stays memory at number bytes none =
+    let here : 4096 * number / 4096 ≡ number = omega arith in
+    let same : page_allows false (map.get (with_bytes memory at bytes) number) ≡ page_allows false (map.get memory number) = rw here at (modes_stay bytes at (4096 * number) memory false) in
+    none_of _ (sym (allows_is (map.get (with_bytes memory at bytes) number)) ∙ same ∙ ap (page_allows false) none)
+
+stored_low : (memory : Memory) (at : ℕ) (bytes : List ℕ) (o : Option ℕ) → HasNoLowPage memory → HasNoLowPage (stored memory at bytes o)
+stored_low memory at bytes (Some least) no_low number low = no_low number low
+stored_low memory at bytes None no_low number low = none_stays memory at number bytes (no_low number low)
+
+pub store_low : (memory new : Memory) (at len value : ℕ) → new ≡ store memory at len value → HasNoLowPage memory → HasNoLowPage new
+store_low memory new at len value is no_low = subst HasNoLowPage (sym is) (stored_low memory at (little len value) (least_refused memory true at len) no_low)

@@ -1,7 +1,9 @@
 -- A machine that runs a program: what it runs, and where it stands.
-use Rattle.std.specs.Prelude.{ℕ, List, refl}
+use Rattle.std.specs.Prelude.{◌≡◌, ℕ, ◌<◌, List, None, refl}
+use Rattle.std.specs.FinMap as map
 use Rattle.std.specs.Coded.{Coded, code_by, coded×, coded_ℕ, coded_list}
 use Rattle.runs.specs.Machine.{At}
+use Rattle.machine_state.specs.Memory.{Memory}
 use Rattle.machine_state.specs.State.{State}
 use Rattle.machine_state.specs.Codes.{state_code}
 use Rattle.pvm_ops.specs.Listing.{Listing}
@@ -17,6 +19,10 @@ pub record Machine : Type 0 where
 -- the state where the machine stands, as its runs are told
 abbrev pub standing : Machine → At ℕ State
 standing m = record { at = m.counter; of = m.state }
+
+-- no page holds an address below 2^16
+abbrev pub HasNoLowPage : Memory → Type 0
+HasNoLowPage memory = (number : ℕ) → number < 16 → map.get memory number ≡ None
 
 -- a machine is stored as the tuple of its fields
 abbrev pub listing_code : Coded Listing

@@ -72,12 +72,12 @@ Costs answer.OutOfGas old new = (old ≡ 0) × (new ≡ 0)
 Costs (answer.Host number) old new = old ≡ new + 1
 Costs answer.Memory old new = old ≡ new
 
--- the answers that steps give so far: no instruction accesses a page, calls the host or is refused memory
+-- the answers that steps give so far: no instruction calls the host or is refused memory
 abbrev pub IsGivenSoFar : Step → Type 0
 IsGivenSoFar answer.Next = Unit {0}
 IsGivenSoFar answer.Halt = Unit {0}
 IsGivenSoFar answer.Panic = Unit {0}
-IsGivenSoFar (answer.Fault address) = ⊥
+IsGivenSoFar (answer.Fault address) = Unit {0}
 IsGivenSoFar answer.OutOfGas = Unit {0}
 IsGivenSoFar (answer.Host number) = ⊥
 IsGivenSoFar answer.Memory = ⊥

@@ -7,12 +7,15 @@ ghost use Rattle.pvm_ops.specs.Opcodes.{is_known};
 ghost use Rattle.blob_check.specs.Starts.{is_start};
 ghost use Rattle.pvm_machine.specs.Effect.{branches, chosen};
 ghost use Rattle.pvm_machine.specs.Step.{land, does_at};
-ghost use Rattle.pvm_machine.specs.Outcomes.{outcome_of, with_registers};
+ghost use Rattle.pvm_machine.specs.Machine.{HasNoLowPage};
+ghost use Rattle.pvm_machine.specs.Outcomes.{outcome_of, put_as, with_parts, SameAfter};
 
+use crate::accesses::{load, put_loaded, store};
 use crate::operation::{Operation, decode};
 use arithmetic::Condition;
 use blob_check::is_start;
 use blob_codec::Program;
+use page_memory::Memory;
 use pvm_ops::{Code, Instr};
 
 /// The registers of a machine.
@@ -29,6 +32,8 @@ pub(crate) enum Outcome {
     Halt,
     /// It panics, and wrote nothing.
     Panic,
+    /// It accessed the page at this address, which it may not, and wrote nothing.
+    Fault(u32),
 }
 
 /// A jump to a position, and a panic where no block starts there.
@@ -96,7 +101,7 @@ fn chosen(condition: Condition, number: u64, x: u64, y: u64) -> u64
 }
 
 /// A register takes a value.
-fn put(registers: &mut Registers, at: u8, value: u64) -> Outcome
+pub(crate) fn put(registers: &mut Registers, at: u8, value: u64) -> Outcome
     requires { at ≤ 12 }
     ensures next { result ≡ Outcome.Next }
     ensures put { registers.new ≡ slice_set registers.old at value }
@@ -109,16 +114,16 @@ fn put(registers: &mut Registers, at: u8, value: u64) -> Outcome
 fn put_as(outcome: Outcome, registers: &mut Registers, at: u8, value: u64) -> Outcome
     requires { at ≤ 12 }
     ensures same { result ≡ outcome }
-    ensures kept { result ≡ Outcome.Panic → registers.new ≡ registers.old }
-    ensures put { (result ≡ Outcome.Panic → ⊥) → registers.new ≡ slice_set registers.old at value }
+    ensures registers { registers.new ≡ put_as outcome registers.old at value }
 {
-    if outcome != Outcome::Panic {
-        registers[usize::from(at)] = value;
+    match outcome {
+        Outcome::Next | Outcome::Jump(_) | Outcome::Halt => registers[usize::from(at)] = value,
+        Outcome::Panic | Outcome::Fault(_) => {}
     }
     outcome
 }
 
-/// Does the instruction that stands at a position, as far as the registers go.
+/// Does the instruction that stands at a position, as far as registers and memory go.
 #[tactic(auto, unfolding(crate::specs::Effect::effect))]
 pub(crate) fn act(
     code: &Code<'_>,
@@ -126,11 +131,14 @@ pub(crate) fn act(
     at: u64,
     instr: Instr,
     registers: &mut Registers,
+    memory: &mut Memory,
 ) -> Outcome
     requires registers { (instr.a ≤ 12) × (instr.b ≤ 12) × (instr.d ≤ 12) }
     requires known { IsTrue (is_known instr.op) }
-    ensures does { (s : State) → does_at no_host program.now.table code.now (record { instr = instr; at = at }) (with_registers s registers.old) ≡ outcome_of result (with_registers s registers.new) }
-    ensures kept { result ≡ Outcome.Panic → registers.new ≡ registers.old }
+    ensures does { (s : State) → does_at no_host program.now.table code.now (record { instr = instr; at = at }) (with_parts s registers.old memory.old) ≡ outcome_of result (with_parts s registers.new memory.new) }
+    ensures registers { SameAfter result registers.old registers.new }
+    ensures memory { SameAfter result memory.old memory.new }
+    ensures low { HasNoLowPage memory.old → HasNoLowPage memory.new }
 {
     let a = registers[instr.a as usize];
     let b = registers[instr.b as usize];
@@ -145,6 +153,17 @@ pub(crate) fn act(
         }
         Operation::BranchImm(condition) => {
             branch(code, condition, a, instr.x, at.wrapping_add(instr.y))
+        }
+        Operation::StoreImm(width) => store(memory, instr.x, width, instr.y),
+        Operation::Load(width, extension) => {
+            put_loaded(registers, instr.a, load(memory, instr.x, width, extension))
+        }
+        Operation::Store(width) => store(memory, instr.x, width, a),
+        Operation::StoreImmInd(width) => store(memory, a.wrapping_add(instr.x), width, instr.y),
+        Operation::StoreInd(width) => store(memory, b.wrapping_add(instr.x), width, a),
+        Operation::LoadInd(width, extension) => {
+            let loaded = load(memory, b.wrapping_add(instr.x), width, extension);
+            put_loaded(registers, instr.a, loaded)
         }
         Operation::Unary(op) => put(registers, instr.d, op.apply(a)),
         Operation::Imm(op) => put(registers, instr.a, op.apply(b, instr.x)),
@@ -162,14 +181,6 @@ pub(crate) fn act(
             let d = registers[instr.d as usize];
             put(registers, instr.d, chosen(condition, b, a, d))
         }
-        Operation::Trap
-        | Operation::Ecalli
-        | Operation::StoreImm(_)
-        | Operation::Load(_, _)
-        | Operation::Store(_)
-        | Operation::StoreImmInd(_)
-        | Operation::Sbrk
-        | Operation::StoreInd(_)
-        | Operation::LoadInd(_, _) => Outcome::Panic,
+        Operation::Trap | Operation::Ecalli | Operation::Sbrk => Outcome::Panic,
     }
 }

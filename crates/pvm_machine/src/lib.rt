@@ -1,21 +1,24 @@
 //! The PVM: what instructions do, one step of the machine, and its run under gas.
 //!
 //! The machine is that of the JAM Gray Paper 0.7.0, appendix A. `specs/Operations.antt` has the operation of each opcode
-//! and `specs/Effect.antt` what it does, so far but for accesses to memory, host calls and `sbrk`, which panic;
+//! and `specs/Effect.antt` what it does, so far but for host calls and `sbrk`, which panic;
 //! `specs/Stepped.antt` has what one step leaves and answers.
 #![tactic(auto)]
 
+mod accesses;
 mod answers;
 mod instructions;
 mod laws;
 mod machine;
 #[cfg(test)]
+mod memory_tests;
+#[cfg(test)]
 mod opcode_tests;
 mod operation;
-mod start_state;
+mod start_memory;
 #[cfg(test)]
 mod tests;
 
 pub use answers::{Exit, StartFault, Step};
-pub use laws::{effects_keep_targets, memory_stays, operations_have_forms, steps_are_turns};
+pub use laws::{effects_keep_targets, operations_have_forms, steps_are_turns};
 pub use machine::Machine;

@@ -1,4 +1,5 @@
 ghost use Rattle.std.specs.Prelude.{◌≡◌, ◌≤◌, ◌<◌, ◌-◌, ◌*◌, ◌^◌, ◌↔◌, false, length, IfOk, Err, MatchOption};
+ghost use Rattle.std.specs.FinMap as map;
 ghost use Rattle.machine_state.specs.State.{register, with_register};
 ghost use Rattle.machine_state.specs.Output.{output_range};
 ghost use Rattle.blob_check.specs.Starts.{is_start};
@@ -9,9 +10,10 @@ ghost use Rattle.pvm_machine.specs.Started.{started};
 
 use crate::answers::{Exit, StartFault, Step};
 use crate::instructions::{Outcome, Registers, act};
-use crate::start_state::StartState;
+use crate::start_memory::{FRAME_LIMIT, heap_bound, heap_top, start_memory};
 use blob_check::is_start;
 use blob_codec::{Container, Program};
+use page_memory::Memory;
 use pvm_ops::{Code, fetch};
 use std::alloc::Global;
 use std::marker::Model;
@@ -22,31 +24,38 @@ const MAX_ARGUMENT: usize = 0x100_0000;
 /// A machine that runs the program of a container, whose bytes it lends.
 ///
 /// It has thirteen registers of 64 bits (0 is ra, 1 sp, 2 to 4 t0 to t2, 5 and 6 s0 and s1, 7 to 12 a0 to a5), the
-/// position in the code at which the next instruction stands, and the gas that is left, of which each instruction
-/// costs one.
-#[derive(Debug, Drop)]
+/// position in the code at which the next instruction stands, a memory of pages, and the gas that is left, of which each
+/// instruction costs one. It knows where its heap ends, below which address that may grow, and how many pages the memory
+/// may have.
+#[derive(Drop)]
 pub struct Machine<'a> {
     program: Program<'a>,
     code: Code<'a>,
     registers: Registers,
+    memory: Memory,
     counter: u64,
     gas: u64,
-    start: StartState<'a>,
+    heap_top: u64,
+    heap_bound: u64,
+    frame_limit: u32,
 }
 
 impl<'a> Model for Machine<'a> {
-    ghost use Rattle.pvm_machine.specs.Machine.{Machine, machine_code};
-    ghost use Rattle.pvm_machine.specs.Outcomes.{with_registers};
+    ghost use Rattle.pvm_machine.specs.Machine.{Machine, HasNoLowPage, machine_code};
 
     ghost Value = { Machine };
 
     ghost coded = { machine_code };
 
-    ghost view = { λ m. record { table = m.program.table; code = m.code; counter = m.counter; state = with_registers m.start m.registers; gas = m.gas } };
+    ghost view = { λ m. record { table = m.program.table; code = m.code; counter = m.counter; state = record { registers = m.registers; memory = m.memory; heap_top = m.heap_top; heap_bound = m.heap_bound; frame_limit = m.frame_limit }; gas = m.gas } };
+
+    ghost invariant = { λ m. HasNoLowPage m.memory };
 }
 
 impl<'a> Machine<'a> {
-    /// A machine at the entry with a number, from 0, with the argument in its memory and so much gas.
+    /// A machine at the entry with a number, from 0, with the argument in its memory and so much gas. Its memory is that
+    /// of the standard start: read-only data from 2^16 on, writable data with the zero pages, the stack below
+    /// 0xfefe0000, and the argument from 0xfeff0000 on.
     ///
     /// # Errors
     /// `ArgumentTooLarge` for more than 2^24 bytes, then `BadEntry` where no block starts at position 5 `entry`.
@@ -58,6 +67,7 @@ impl<'a> Machine<'a> {
         gas: u64,
     ) -> Result<Machine<'a>, StartFault>
         ensures started { IfOk result (λ m. m ≡ started container.now entry argument.now gas) }
+        ensures frames { IfOk result (λ m. map.len m.state.memory ≤ 131072) }
         ensures argument { (result ≡ Err StartFault.ArgumentTooLarge) ↔ (2 ^ 24 < length argument.now) }
         ensures entry { (result ≡ Err StartFault.BadEntry) ↔ ((length argument.now ≤ 2 ^ 24) × (is_start container.now.program.code (5 * entry) ≡ false)) }
     {
@@ -71,12 +81,15 @@ impl<'a> Machine<'a> {
             return Err(StartFault::BadEntry);
         }
         Ok(Machine {
-            start: StartState::new(alloc, container, argument)?,
+            memory: start_memory(alloc, container, argument)?,
             program,
             code,
             registers: start_registers(argument.len()),
             counter,
             gas,
+            heap_top: heap_top(container),
+            heap_bound: heap_bound(container),
+            frame_limit: FRAME_LIMIT,
         })
     }
 
@@ -99,6 +112,7 @@ impl<'a> Machine<'a> {
             at,
             fetched.instr,
             &mut self.registers,
+            &mut self.memory,
         ) {
             Outcome::Next => {
                 self.counter = fetched.next;
@@ -110,6 +124,7 @@ impl<'a> Machine<'a> {
             }
             Outcome::Halt => Step::Halt,
             Outcome::Panic => Step::Panic,
+            Outcome::Fault(page) => Step::Fault(page),
         }
     }
 
@@ -145,6 +160,13 @@ impl<'a> Machine<'a> {
         self.registers[at as usize] = value;
     }
 
+    /// The memory.
+    pub fn memory(&self) -> &Memory
+        ensures { result.now ≡ self.now.state.memory }
+    {
+        &self.memory
+    }
+
     /// The gas that is left.
     pub fn gas(&self) -> u64
         ensures { result ≡ self.now.gas }
@@ -177,11 +199,10 @@ impl<'a> Machine<'a> {
         if len == 0 || len > 1 << 32 || at > (1 << 32) - len {
             return None;
         }
-        if self.start.readable(at, len) {
-            Some((at as u32, len as u32))
-        } else {
-            None
+        if self.memory.refused(at, len, false).is_some() {
+            return None;
         }
+        Some((at as u32, len as u32))
     }
 }
 
