@@ -11,8 +11,9 @@ use Rattle.runs.specs.Blocks.{blocks, block_of}
 use Rattle.runs.specs.Pieces.{Piece, Carries, Aims, op_place}
 use Rattle.machine_state.specs.State.{State, IsState}
 use Rattle.machine_state.specs.Ends.{End, Host, rules}
+use Rattle.page_memory.proofs.Outcomes.{loads_by, stores_by}
 use Rattle.lift_blocks.specs.Operations.{Operation, Plain, Jalr}
-use Rattle.lift_blocks.specs.Step.{value, with_value, plain_does, op_does}
+use Rattle.lift_blocks.specs.Step.{value, with_value, load_bytes, load_has_sign, store_bytes, plain_does, op_does}
 use Rattle.lift_blocks.specs.Listed.{Lifted}
 use Rattle.lower.specs.Cutting.{Aimed, piece_of, pieces, instr_does, instr_places}
 use Rattle.lower.specs.Laws.{LoweredIsCut}
@@ -56,8 +57,8 @@ module _ (host : Host) (lifted : Lifted) (begin : (i t : ℕ) → slice_get lift
   plain_is_aimed (rv.Jal rd offset) s = tt
   plain_is_aimed (rv.Jalr rd rs1 imm) s = tt
   plain_is_aimed (rv.Branch cond rs1 rs2 offset) s = tt
-  plain_is_aimed (rv.Load width rd rs1 imm) s = tt
-  plain_is_aimed (rv.Store width rs1 rs2 imm) s = tt
+  plain_is_aimed (rv.Load width rd rs1 imm) s = loads_by IsAimed (λ x. with_value s rd x) (load_has_sign width) (load_bytes width) (value s rs1 + word_of imm) s (λ number. tt) (λ end. tt)
+  plain_is_aimed (rv.Store width rs1 rs2 imm) s = stores_by IsAimed (store_bytes width) (value s rs1 + word_of imm) (value s rs2) s (λ memory. tt) (λ end. tt)
   plain_is_aimed (rv.OpImm op rd rs1 imm) s = tt
   plain_is_aimed (rv.Op op rd rs1 rs2) s = tt
   plain_is_aimed rv.Fence s = tt

@@ -2,19 +2,18 @@
 use Rattle.std.proofs.Common.{◌≡◌, ℕ, ◌≤◌, List, [], ◌∷◌, length, map, refl, sym, ap, ◌∙◌, subst, arith}
 use Rattle.std.specs.List.{AllByRecursion}
 use Rattle.std.proofs.lemmas.List.{length-map}
-use Rattle.rv_decode.specs.declared.ops.Reg.TheVariants.{Zero, R}
 use Rattle.rv_decode.specs.declared.ops.RvOp.{RvOp}
-use Rattle.rv_decode.specs.declared.ops.RvOp.TheVariants as rv
 use Rattle.runs.specs.Machine.{Outcome, Next, Jump, Call, Ends, and_then, does}
 use Rattle.machine_state.specs.State.{State}
 use Rattle.machine_state.specs.Ends.{End, Host, no_host}
 use Rattle.pvm_ops.specs.declared.instr.Instr.{Instr}
 use Rattle.pvm_machine.specs.Effect.{effect}
 use Rattle.jump_table.specs.Laws.{IsPlainInstr}
-use Rattle.lower.specs.Plain.{lower_plain, three_of, listed, IsLowerable, IsPlainOp}
+use Rattle.lower.specs.Plain.{lower_plain, three_of, listed, IsLowerable}
 use Rattle.lower.specs.Cutting.{instr_does}
 use Rattle.lower.specs.Laws.{HasEffect, OperationsAreLowered}
-use Rattle.lower.proofs.Effects.{aimed_at_none, lowers_plain}
+use Rattle.lower.proofs.Single.{aimed_at_none}
+use Rattle.lower.proofs.Effects.{lowers_plain}
 use Rattle.lower.proofs.Encodable.{alone_is_plain}
 
 pub operations_are_lowered : OperationsAreLowered
@@ -41,32 +40,9 @@ module _ (host : Host) (needed : List ℕ) where
   unaimed_does [] s = refl
   unaimed_does (i ∷ is) s = then_same (effect host needed 0 i s) (does (effect host needed 0) is) (does (instr_does host needed) (map aimed_at_none is)) (λ t. unaimed_does is t)
 
--- an operation that accesses no memory has three instructions at most
-few_of_plain : (op : RvOp) → IsPlainOp op → length (lower_plain op) ≤ 3
-few_of_plain op h = rw (← length-map (lower_plain op) aimed_at_none) (lowers_plain no_host [] op h).three
-
--- the instructions that are listed of an operation do what it does
-pub has_effect : (op : RvOp) → IsPlainOp op → HasEffect op (listed (three_of (lower_plain op)))
-has_effect op h host needed s g =
-    let lowers = lowers_plain host needed op h in
-    ap (λ is. does (effect host needed 0) is s) (all_listed (lower_plain op) (few_of_plain op h)) ∙ unaimed_does host needed (lower_plain op) s ∙ lowers.same s g
-
 -- an operation has three instructions at most
 few_of_alone : (op : RvOp) → IsLowerable op → length (lower_plain op) ≤ 3
-few_of_alone (rv.Load width Zero rs1 imm) h = omega arith
-few_of_alone (rv.Load width (R d) Zero imm) h = omega arith
-few_of_alone (rv.Load width (R d) (R a) imm) h = omega arith
-few_of_alone (rv.Store width Zero Zero imm) h = omega arith
-few_of_alone (rv.Store width Zero (R b) imm) h = omega arith
-few_of_alone (rv.Store width (R a) Zero imm) h = omega arith
-few_of_alone (rv.Store width (R a) (R b) imm) h = omega arith
-few_of_alone (rv.Lui rd value) h = few_of_plain (rv.Lui rd value) h
-few_of_alone (rv.Auipc rd value) h = few_of_plain (rv.Auipc rd value) h
-few_of_alone (rv.OpImm op rd rs1 imm) h = few_of_plain (rv.OpImm op rd rs1 imm) h
-few_of_alone (rv.Op op rd rs1 rs2) h = few_of_plain (rv.Op op rd rs1 rs2) h
-few_of_alone rv.Fence h = few_of_plain rv.Fence h
-few_of_alone rv.Trap h = few_of_plain rv.Trap h
-few_of_alone op h = absurd h
+few_of_alone op h = rw (← length-map (lower_plain op) aimed_at_none) (lowers_plain no_host [] op h).three
 
 -- so all of them are listed
 pub all_are_listed : (op : RvOp) → IsLowerable op → listed (three_of (lower_plain op)) ≡ lower_plain op
@@ -75,3 +51,9 @@ all_are_listed op h = all_listed (lower_plain op) (few_of_alone op h)
 -- and each can be placed
 pub listed_are_plain : (op : RvOp) → IsLowerable op → AllByRecursion IsPlainInstr (listed (three_of (lower_plain op)))
 listed_are_plain op h = subst (λ is. AllByRecursion IsPlainInstr is) (sym (all_are_listed op h)) (alone_is_plain op h)
+
+-- the instructions that are listed of an operation do what it does
+pub has_effect : (op : RvOp) → IsLowerable op → HasEffect op (listed (three_of (lower_plain op)))
+has_effect op h host needed s g =
+    let lowers = lowers_plain host needed op h in
+    ap (λ is. does (effect host needed 0) is s) (all_are_listed op h) ∙ unaimed_does host needed (lower_plain op) s ∙ lowers.same s g

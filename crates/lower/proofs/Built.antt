@@ -1,4 +1,4 @@
--- The operations that are lowered so far: those without memory access that are no jump and no branch, and ret.
+-- The operations that are lowered so far: those that are no jump and no branch, and ret.
 use Rattle.std.proofs.Common.{◌≡◌, ℕ, zero, ◌+◌, ◌^◌, ◌<◌, ◌≤◌, Bool, true, false, ℤ, pos, negsuc, List, length, Option, Some, None, Result, Ok, Err, IfOk, IfSome, refl, subst, arith}
 use Rattle.std.specs.Prelude.{nat_eq, nat_le, if◌then◌else◌, slice_get}
 use Rattle.numbers.specs.Words.{word_of}
@@ -15,7 +15,7 @@ use Rattle.rv_decode.proofs.OperationRanges.{operation_is_op}
 use Rattle.symbols.specs.Wanted.{Given}
 use Rattle.relocs.specs.Places.{CodePlace, Code, Stub, Nowhere, code_at, next_place}
 use Rattle.lower.specs.Laws.{WordsAreLowerable}
-use Rattle.lower.specs.Plain.{IsOperand, IsLowerable, IsPlainOp}
+use Rattle.lower.specs.Plain.{IsOperand, IsLowerable}
 use Rattle.relocs.specs.Words.{is_linked, linked, linked_operation, word_at, decoded, standing, is_code_offset, raw_in, raw_at}
 use Rattle.relocs.specs.AddressMap.{needed_places}
 use Rattle.lift_blocks.specs.Operations.{Operation, Plain, Branch, Jal, Jalr, Pair, HostCall, Sbrk, rename, if_link, placed_op}
@@ -29,11 +29,11 @@ IsReturn rd rs1 imm = ⊥
 -- what a word or a section's end has as its operation
 abbrev pub IsWord : RvOp → Type 0
 IsWord (rv.Jalr rd rs1 imm) = IsReturn rd rs1 imm
-IsWord op = IsPlainOp op
+IsWord op = IsLowerable op
 
 -- the same of an operation at a place
 abbrev pub IsBuilt : {Target : Type 0} → Operation Target → Type 0
-IsBuilt (Plain op) = IsPlainOp op
+IsBuilt (Plain op) = IsLowerable op
 IsBuilt (Jalr rd rs1 imm link) = IsReturn rd rs1 imm
 IsBuilt op = ⊥
 
@@ -83,16 +83,6 @@ operand_is_signed Slliw imm h = amount_is_signed 32 imm (omega arith) h
 operand_is_signed Srliw imm h = amount_is_signed 32 imm (omega arith) h
 operand_is_signed Sraiw imm h = amount_is_signed 32 imm (omega arith) h
 
--- what accesses no memory can be lowered alone
-pub plain_is_lowerable : (op : RvOp) → IsPlainOp op → IsLowerable op
-plain_is_lowerable (rv.Lui rd value) h = h
-plain_is_lowerable (rv.Auipc rd value) h = h
-plain_is_lowerable (rv.OpImm op rd rs1 imm) h = h
-plain_is_lowerable (rv.Op op rd rs1 rs2) h = h
-plain_is_lowerable rv.Fence h = h
-plain_is_lowerable rv.Trap h = h
-plain_is_lowerable op h = absurd h
-
 -- a word's operation can be lowered alone, where it is no jump and no branch
 pub words_are_lowerable : WordsAreLowerable
 words_are_lowerable (rv.Lui rd value) h = (h.0, h.1)
@@ -110,6 +100,8 @@ linked_is_word : (op : RvOp) → IsOp op → is_linked op ≡ true → IsWord op
 linked_is_word (rv.Lui rd value) h e = words_are_lowerable (rv.Lui rd value) h
 linked_is_word (rv.Auipc rd value) h e = words_are_lowerable (rv.Auipc rd value) h
 linked_is_word (rv.Jalr Zero (R zero) (pos zero)) h e = (omega arith, omega arith)
+linked_is_word (rv.Load width rd rs1 imm) h e = words_are_lowerable (rv.Load width rd rs1 imm) h
+linked_is_word (rv.Store width rs1 rs2 imm) h e = words_are_lowerable (rv.Store width rs1 rs2 imm) h
 linked_is_word (rv.OpImm op rd rs1 imm) h e = words_are_lowerable (rv.OpImm op rd rs1 imm) h
 linked_is_word (rv.Op op rd rs1 rs2) h e = h
 linked_is_word rv.Fence h e = tt
@@ -166,6 +158,8 @@ placed_is_built : (needed : List CodePlace) (given : Given) (p : CodePlace) (o :
 placed_is_built needed given p None op h e = absurd cc
 placed_is_built needed given p (Some (rv.Lui rd value)) op h e = let same : Plain (rv.Lui rd value) ≡ op = cc in subst (λ o. IsBuilt o) same h
 placed_is_built needed given p (Some (rv.Auipc rd value)) op h e = let same : Plain (rv.Auipc rd value) ≡ op = cc in subst (λ o. IsBuilt o) same h
+placed_is_built needed given p (Some (rv.Load width rd rs1 imm)) op h e = let same : Plain (rv.Load width rd rs1 imm) ≡ op = cc in subst (λ o. IsBuilt o) same h
+placed_is_built needed given p (Some (rv.Store width rs1 rs2 imm)) op h e = let same : Plain (rv.Store width rs1 rs2 imm) ≡ op = cc in subst (λ o. IsBuilt o) same h
 placed_is_built needed given p (Some (rv.Op a rd rs1 rs2)) op h e = let same : Plain (rv.Op a rd rs1 rs2) ≡ op = cc in subst (λ o. IsBuilt o) same h
 placed_is_built needed given p (Some rv.Fence) op h e = let same : Plain rv.Fence ≡ op = cc in subst (λ o. IsBuilt o) same tt
 placed_is_built needed given p (Some (rv.OpImm a rd rs1 imm)) op h e = let same : Plain (rv.OpImm a rd rs1 imm) ≡ op = cc in subst (λ o. IsBuilt o) same h

@@ -12,10 +12,10 @@ use Rattle.pvm_ops.specs.declared.instr.Instr.{Instr}
 use Rattle.pvm_ops.specs.Fetch.{trap}
 use Rattle.jump_table.specs.Laws.{IsPlainInstr, IsEnded}
 use Rattle.lower.specs.Instructions.{fallthrough, jump_ind}
-use Rattle.lower.specs.Plain.{lower_plain, IsPlainOp}
+use Rattle.lower.specs.Plain.{lower_plain, IsLowerable}
 use Rattle.lower.specs.Lowering.{lower_op, ends, tail_if, tail_of, aim_of, as_block, aim_of_last, block_instrs}
 use Rattle.lower.proofs.Lists.{all_append}
-use Rattle.lower.proofs.Built.{IsReturn, IsBuilt, plain_is_lowerable}
+use Rattle.lower.proofs.Built.{IsReturn, IsBuilt}
 use Rattle.lower.proofs.Encodable.{fallthrough_is_plain, jump_ind_is_plain, alone_is_plain}
 
 -- a block's tail is none or a fallthrough
@@ -35,7 +35,7 @@ returns_are_plain rd rs1 imm link h = absurd h
 
 -- the instructions of an operation
 op_is_plain : (op : Operation ℕ) → IsBuilt op → AllByRecursion IsPlainInstr (lower_op op)
-op_is_plain (Plain op) h = alone_is_plain op (plain_is_lowerable op h)
+op_is_plain (Plain op) h = alone_is_plain op h
 op_is_plain (Jalr rd rs1 imm link) h = returns_are_plain rd rs1 imm link h
 op_is_plain op h = absurd h
 
@@ -49,9 +49,11 @@ pub block_is_plain : (ops : List (Operation ℕ)) → AllByRecursion IsBuilt ops
 block_is_plain ops h = all_append IsPlainInstr (lowered lower_op ops) (tail_of ops) (ops_are_plain ops h) (tail_has (AllByRecursion IsPlainInstr) tt (fallthrough_is_plain, tt) ops)
 
 -- a block of one of these alone
-plain_is_ended : (op : RvOp) → IsPlainOp op → IsEnded (block_instrs (Plain op ∷ []))
+plain_is_ended : (op : RvOp) → IsLowerable op → IsEnded (block_instrs (Plain op ∷ []))
 plain_is_ended (rv.Lui rd value) h = record { front = lower_plain (rv.Lui rd value) ++ []; last = fallthrough; is = refl; terminator = refl }
 plain_is_ended (rv.Auipc rd value) h = record { front = lower_plain (rv.Auipc rd value) ++ []; last = fallthrough; is = refl; terminator = refl }
+plain_is_ended (rv.Load width rd rs1 imm) h = record { front = lower_plain (rv.Load width rd rs1 imm) ++ []; last = fallthrough; is = refl; terminator = refl }
+plain_is_ended (rv.Store width rs1 rs2 imm) h = record { front = lower_plain (rv.Store width rs1 rs2 imm) ++ []; last = fallthrough; is = refl; terminator = refl }
 plain_is_ended (rv.OpImm op rd rs1 imm) h = record { front = lower_plain (rv.OpImm op rd rs1 imm) ++ []; last = fallthrough; is = refl; terminator = refl }
 plain_is_ended (rv.Op op rd rs1 rs2) h = record { front = lower_plain (rv.Op op rd rs1 rs2) ++ []; last = fallthrough; is = refl; terminator = refl }
 plain_is_ended rv.Fence h = record { front = lower_plain rv.Fence ++ []; last = fallthrough; is = refl; terminator = refl }

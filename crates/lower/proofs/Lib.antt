@@ -1,6 +1,8 @@
 pub mod Lists
 pub mod Built
 pub mod Rows
+pub mod Single
+pub mod Accesses
 pub mod Effects
 pub mod Alone
 pub mod Encodable

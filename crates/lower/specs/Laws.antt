@@ -17,7 +17,7 @@ use Rattle.jump_table.specs.Laws.{IsPlain}
 use Rattle.pvm_ops.specs.declared.instr.Instr.{Instr}
 use Rattle.pvm_ops.specs.BlockList.{Block}
 use Rattle.pvm_machine.specs.Effect.{effect}
-use Rattle.lower.specs.Plain.{IsLowerable, IsPlainOp}
+use Rattle.lower.specs.Plain.{IsLowerable}
 use Rattle.lower.specs.Lowering.{lowered_blocks}
 use Rattle.lower.specs.Cutting.{aimed_op, pieces, instr_does, instr_places}
 
@@ -37,10 +37,10 @@ HasEffect op is =
     (host : Host) (needed : List ℕ) (s : State) → IsState s
     → ◌≡◌ {A = Outcome ℕ State End} (does (effect host needed 0) is s) (plain_does op s)
 
--- The instructions of an operation that accesses no memory do what it does, are three at most, and keep the state good.
+-- The instructions of an operation that can be lowered alone do what it does, are three at most, and keep the state good.
 abbrev pub OperationsAreLowered : Type 0
 OperationsAreLowered =
-    (host : Host) (needed : List ℕ) (op : RvOp) → IsPlainOp op
+    (host : Host) (needed : List ℕ) (op : RvOp) → IsLowerable op
     → Lowers (op_does host needed) (instr_does host needed) IsState aimed_op (Plain op)
 
 -- Each block's instructions do what its operations do, at most four begun for each, and jumps lead to blocks: for any

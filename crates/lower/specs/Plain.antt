@@ -223,12 +223,6 @@ IsLowerable rv.Fence = Unit {0}
 IsLowerable rv.Trap = Unit {0}
 IsLowerable op = ⊥
 
--- such an operation that accesses no memory
-abbrev pub IsPlainOp : RvOp → Type 0
-IsPlainOp (rv.Load width rd rs1 imm) = ⊥
-IsPlainOp (rv.Store width rs1 rs2 imm) = ⊥
-IsPlainOp op = IsLowerable op
-
 -- at most three instructions, with the trap, which is all zero, in the places that are not used
 abbrev pub three_of : List Instr → Three
 three_of [] = record { count = 0; first = trap; second = trap; third = trap }

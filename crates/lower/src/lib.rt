@@ -13,8 +13,8 @@ mod tables;
 pub use forms::Three;
 pub use operations::lower_operation;
 
-/// A word's operation can be lowered by itself, unless it is a jump or a branch, and the instructions of an operation
-/// that accesses no memory do what it does.
+/// A word's operation can be lowered by itself, unless it is a jump or a branch, and the instructions of such an
+/// operation do what it does.
 pub fn operations_are_carried_out()
     ensures words { WordsAreLowerable }
     ensures effects { OperationsAreLowered }

@@ -6,7 +6,7 @@ ghost use Rattle.numbers.specs.Words.{word_of};
 ghost use Rattle.jump_table.specs.Laws.{IsPlainInstr};
 ghost use Rattle.lower.specs.Instructions.{add_imm_32, load_imm, move_reg, neg_add_imm_64, set_lt_u_imm};
 ghost use Rattle.lower.specs.Laws.{HasEffect};
-ghost use Rattle.lower.specs.Plain.{IsLowerable, IsPlainOp, listed, lower_plain, three_of, with_first_zero, with_second_zero};
+ghost use Rattle.lower.specs.Plain.{IsLowerable, listed, lower_plain, three_of, with_first_zero, with_second_zero};
 
 use crate::forms::{Three, all_three, none, one, rr, rrr, rrx, rx, rxy, trap, two, xy};
 use crate::tables::{
@@ -44,7 +44,7 @@ pub fn lower_operation(op: &RvOp) -> Three
     ensures table { result ≡ three_of (lower_plain op.now) }
     ensures all { listed result ≡ lower_plain op.now }
     ensures plain { AllByRecursion IsPlainInstr (listed result) }
-    ensures effect { IsPlainOp op.now → HasEffect op.now (listed result) }
+    ensures effect { HasEffect op.now (listed result) }
 {
     instructions(op)
 }

@@ -8,4 +8,4 @@ pub returns-clause-plain : goal.returns-clause-plain
 returns-clause-plain c = rw c.instructions.ensures (listed_are_plain c.args.op.now c.requires)
 
 pub returns-clause-effect : goal.returns-clause-effect
-returns-clause-effect c = rw c.instructions.ensures (has_effect c.args.op.now)
+returns-clause-effect c = rw c.instructions.ensures (has_effect c.args.op.now c.requires)
