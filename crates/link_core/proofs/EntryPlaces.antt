@@ -18,7 +18,8 @@ use Rattle.symbols.specs.Parts.{kind_of, kind_at, no_object, symbol_count}
 use Rattle.symbols.specs.Wanted.{Given, entry_name_at}
 use Rattle.symbols.specs.Resolution.{Definition, definition_of, section_place, defined_place, definition_or_import, entry_place}
 use Rattle.symbols.specs.Faults.{has_entry, may_be_entry, entry_fault, faults_of_symbol, faults_of_entry, symbol_faults}
-use Rattle.relocs.specs.Places.{CodePlace, Code, is_code, is_kept, code_if, code_at, sections_of}
+use Rattle.relocs.specs.Places.{CodePlace, Code, is_kept, code_if, code_at, sections_of}
+use Rattle.layout.specs.Sections.{is_code}
 use Rattle.lift_blocks.specs.Listed.{place_in_section, place_of, entry_places}
 use Rattle.lower.proofs.Lists.{all_from_places}
 use Rattle.symbols.specs.Resolved.{Resolved}

@@ -10,6 +10,8 @@ pub mod StraightEmitted
 pub mod StraightFits
 pub mod StraightLinked
 pub mod PartsLaws
+pub mod Images
+pub mod DataLines
 pub mod Packing
 pub mod Placing
 pub mod EntryPlaces

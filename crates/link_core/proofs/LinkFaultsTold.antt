@@ -12,9 +12,12 @@ use Rattle.symbols.specs.Wanted.{Wanted, Given}
 use Rattle.symbols.specs.Faults.{symbol_faults, Refuses}
 use Rattle.symbols.specs.declared.fault.SymbolFault.{SymbolFault}
 use Rattle.symbols.specs.declared.fault.SymbolFault.TheVariants as symbol
-use Rattle.link_core.specs.Faults.{code_size, code_fault, given_fault, first_fault, given_of, object_faults, whole, FailsWith}
+use Rattle.layout.specs.declared.fault.LayoutFault.{LayoutFault}
+use Rattle.layout.specs.declared.fault.LayoutFault.TheVariants as layout
+use Rattle.layout.specs.Faults.{whole, layout_fault, Refuses as LayoutRefuses}
+use Rattle.link_core.specs.Faults.{code_fault, placed_fault, given_fault, first_fault, given_of, object_faults, FailsWith}
 use Rattle.link_core.specs.Linked.{Linked, HoldsLinked}
-use Rattle.link_core.specs.LinkFaults.{of_symbols}
+use Rattle.link_core.specs.LinkFaults.{of_symbols, of_layout}
 use Rattle.link_core.specs.declared.link_fault.LinkFault.{LinkFault}
 use Rattle.link_core.specs.declared.link_fault.LinkFault.TheVariants.{Bad, Memory}
 use Rattle.link_core.specs.Straight.{size, straight_instrs}
@@ -22,24 +25,20 @@ use Rattle.link_core.specs.Unbuilt.{first_unbuilt}
 use Rattle.link_core.specs.WordFaults.{first_word_fault}
 
 module _ (given : Given) where
-  -- too much code is told first
-  pub told-size : nat_lt (2 ^ 24) (code_size given) ≡ true → code_fault given ≡ Some (whole 17)
-  told-size large = rw large refl
-
-  -- then a word without an operation
-  pub told-words : (fault : Fault) → nat_lt (2 ^ 24) (code_size given) ≡ false → first_word_fault given ≡ Some fault → code_fault given ≡ Some fault
-  told-words fault small words = rw (small, words) refl
+  -- a word without an operation is told first
+  pub told-words : (fault : Fault) → first_word_fault given ≡ Some fault → code_fault given ≡ Some fault
+  told-words fault words = rw words refl
 
   -- then something that isn't built
-  pub told-unbuilt : (fault : Fault) → nat_lt (2 ^ 24) (code_size given) ≡ false → first_word_fault given ≡ None → first_unbuilt given ≡ Some fault → code_fault given ≡ Some fault
-  told-unbuilt fault small words e = rw (small, words, e) refl
+  pub told-unbuilt : (fault : Fault) → first_word_fault given ≡ None → first_unbuilt given ≡ Some fault → code_fault given ≡ Some fault
+  told-unbuilt fault words e = rw (words, e) refl
 
   -- and then too large a program
-  pub told-bytes : nat_lt (2 ^ 24) (code_size given) ≡ false → first_word_fault given ≡ None → first_unbuilt given ≡ None → nat_lt (2 ^ 25) (size (straight_instrs given)) ≡ true → code_fault given ≡ Some (whole 32)
-  told-bytes small words e large = rw (small, words, e, large) refl
+  pub told-bytes : first_word_fault given ≡ None → first_unbuilt given ≡ None → nat_lt (2 ^ 25) (size (straight_instrs given)) ≡ true → code_fault given ≡ Some (whole 32)
+  told-bytes words e large = rw (words, e, large) refl
 
-  pub none-told : nat_lt (2 ^ 24) (code_size given) ≡ false → first_word_fault given ≡ None → first_unbuilt given ≡ None → nat_lt (2 ^ 25) (size (straight_instrs given)) ≡ false → code_fault given ≡ None
-  none-told small words e fits = rw (small, words, e, fits) refl
+  pub none-told : first_word_fault given ≡ None → first_unbuilt given ≡ None → nat_lt (2 ^ 25) (size (straight_instrs given)) ≡ false → code_fault given ≡ None
+  none-told words e fits = rw (words, e, fits) refl
 
 -- where the first part has no fault, what holds of the second holds of both
 pub made-before : {T : Type 0} (Q : T → Type 0) (first second both : Option Fault) (result : Result T LinkFault) → both ≡ (first or_else second) → first ≡ None → MatchResult result (λ x. (second ≡ None) × Q x) (FailsWith second) → MatchResult result (λ x. (both ≡ None) × Q x) (FailsWith both)
@@ -60,13 +59,19 @@ pub symbols-told : (given : Given) (fault : SymbolFault) → Refuses fault (symb
 symbols-told given (symbol.Bad fault) told = told
 symbols-told given symbol.Memory told = tt
 
--- where symbols have no fault, what holds of the code holds of all
-pub symbols-before : (given i : Given) (result : Result Linked LinkFault) → i ≡ given → symbol_faults given ≡ []
+-- the fault of the layout, as that of the link
+pub layout-told : (given : Given) (fault : LayoutFault) → symbol_faults given ≡ [] → LayoutRefuses given fault → FailsWith (given_fault given) (of_layout fault)
+layout-told given (layout.Bad fault) none told = rw (none, told) refl
+layout-told given layout.Memory none told = tt
+
+-- where symbols and the layout have no fault, what holds of the code holds of all
+pub code-before : (given i : Given) (result : Result Linked LinkFault) → i ≡ given → symbol_faults given ≡ [] → layout_fault given ≡ None
     → MatchResult result (λ l. (code_fault i ≡ None) × HoldsLinked i l) (FailsWith (code_fault i))
     → MatchResult result (λ l. (given_fault given ≡ None) × HoldsLinked given l) (FailsWith (given_fault given))
-symbols-before given i result e none holds =
-    made-before (HoldsLinked given) (first_in (symbol_faults given)) (code_fault given) (given_fault given) result refl (ap first_in none)
-    (subst (λ g. MatchResult result (λ l. (code_fault g ≡ None) × HoldsLinked g l) (FailsWith (code_fault g))) e holds)
+code-before given i result e none laid holds =
+    made-before (HoldsLinked given) (first_in (symbol_faults given)) (placed_fault given) (given_fault given) result refl (ap first_in none)
+    (made-before (HoldsLinked given) (layout_fault given) (code_fault given) (placed_fault given) result refl laid
+    (subst (λ g. MatchResult result (λ l. (code_fault g ≡ None) × HoldsLinked g l) (FailsWith (code_fault g))) e holds))
 
 -- the given of objects and wanted names
 abbrev pub given_with : List Object → Wanted → Given

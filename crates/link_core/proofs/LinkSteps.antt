@@ -1,9 +1,8 @@
 -- Steps of a link: the sums of bytes, the jumps of entries, and what is told of files.
-use Rattle.std.proofs.Common.{◌≡◌, ℕ, zero, suc, ◌+◌, ◌-◌, ◌*◌, ◌^◌, ◌<◌, ◌≤◌, true, List, [], ◌∷◌, ◌++◌, length, take, get_or, Option, Some, None, refl, sym, ap, ◌∙◌, arith, add-one, ⊎_elim}
-use Rattle.std.specs.Prelude.{slice_get, nat_lt, IsSomeAnd, Result, Ok, Err, MatchResult}
+use Rattle.std.proofs.Common.{◌≡◌, ℕ, zero, suc, ◌+◌, ◌-◌, ◌*◌, ◌^◌, ◌<◌, ◌≤◌, List, [], ◌∷◌, ◌++◌, length, take, get_or, Option, Some, None, refl, sym, ap, ◌∙◌, arith}
+use Rattle.std.specs.Prelude.{slice_get, IsSomeAnd, Result, Ok, Err, MatchResult}
 use Rattle.std.specs.Result.{IsErrAnd}
 use Rattle.std.specs.List.{filter_map, cons_option}
-use Rattle.std.proofs.lemmas.Bool.{cases_lt, lt-ltb}
 use Rattle.std.proofs.lemmas.Option.{slice_get-get_or}
 use Rattle.faults.specs.First.{first_below}
 use Rattle.faults.specs.Present.{first_in}
@@ -16,46 +15,14 @@ use Rattle.elf_objects.specs.declared.fault.Refusal.{Refusal}
 use Rattle.elf_objects.specs.declared.fault.ObjectFault.{ObjectFault}
 use Rattle.elf_objects.specs.declared.fault.ObjectFault.TheVariants.{Bad, Memory}
 use Rattle.elf_objects.proofs.Records.{object_of-faulty}
-use Rattle.symbols.specs.Wanted.{Given}
-use Rattle.relocs.specs.Places.{code_at, sections_of}
 use Rattle.jump_table.specs.Assembly.{jump, offset}
 use Rattle.pvm_ops.specs.declared.instr.Instr.{Instr}
 use Rattle.link_core.specs.Assembling.{Marked, empty, append}
-use Rattle.link_core.specs.Faults.{sum_below, length_of, object_code_size, code_size, object_fault, object_faults, FailsWith}
+use Rattle.link_core.specs.Faults.{object_fault, object_faults, FailsWith}
 use Rattle.link_core.specs.LinkFaults.{of_object}
 use Rattle.link_core.specs.declared.link_fault.LinkFault.{LinkFault}
 use Rattle.link_core.specs.Straight.{jumps_to}
 use Rattle.link_core.proofs.Placing.{append-append}
-
-pub sum-more : (f : ℕ → ℕ) (n m : ℕ) → m ≡ n + 1 → sum_below m f ≡ sum_below n f + f n
-unfolding sum_below
-sum-more f n m e = rw (e, add-one) refl
-
--- a part of a sum is no more than the sum
-pub sum-within : (f : ℕ → ℕ) (n m : ℕ) → n < m → sum_below n f + f n ≤ sum_below m f
-unfolding sum_below
-sum-within f n zero lt = absurd (omega (arith, lt))
-sum-within f n (suc m) lt = ⊎_elim (λ l. omega (arith, sum-within f n m l)) (λ ge. let same : n ≡ m = omega (arith, lt, ge) in rw same (omega arith)) (cases_lt n m)
-
--- the code section that passes the limit makes the object pass it
-pub code-passes : (given : Given) (o s before size : ℕ) (bytes : List ℕ) → code_at given o s ≡ Some bytes → s < length (sections_of (slice_get given.objects o)) → size ≡ before + sum_below s (λ s. length_of (code_at given o s)) → 2 ^ 24 - size < length bytes → 2 ^ 24 < before + object_code_size given o
-code-passes given o s before size bytes code lt is more =
-    let here : length_of (code_at given o s) ≡ length bytes = ap length_of code in
-    omega (arith, sum-within (λ s. length_of (code_at given o s)) s (length (sections_of (slice_get given.objects o))) lt, here, is, more)
-
--- a section more
-pub code-more : (given : Given) (o s next before size more : ℕ) (x : Option (List ℕ)) → code_at given o s ≡ x → next ≡ s + 1 → size ≡ before + sum_below s (λ s. length_of (code_at given o s)) → more ≡ size + length_of x → more ≡ before + sum_below next (λ s. length_of (code_at given o s))
-code-more given o s next before size more x code one is here =
-    let len : length_of (code_at given o s) ≡ length_of x = ap length_of code in
-    omega (arith, sum-more (λ s. length_of (code_at given o s)) s next one, len, is, here)
-
--- the object that passes the limit makes the whole code pass it
-pub code-large : (given : Given) (o size : ℕ) → o < length given.objects → size ≡ sum_below o (object_code_size given) → 2 ^ 24 < size + object_code_size given o → true ≡ nat_lt (2 ^ 24) (code_size given)
-code-large given o size lt is more =
-    sym (lt-ltb (2 ^ 24) (code_size given) (omega (arith, sum-within (object_code_size given) o (length given.objects) lt, is, more)))
-
-pub object-more : (given : Given) (o next size more : ℕ) → next ≡ o + 1 → size ≡ sum_below o (object_code_size given) → more ≡ size + object_code_size given o → more ≡ sum_below next (object_code_size given)
-object-more given o next size more one is here = omega (arith, sum-more (object_code_size given) o next one, is, here)
 
 -- the offset forward is the difference
 pub offset-forward : (from to : ℕ) → from ≤ to → to ≤ 2 ^ 25 → offset from to ≡ to - from

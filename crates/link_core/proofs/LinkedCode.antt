@@ -1,5 +1,5 @@
 -- The code of a link: the jumps of the entries, which all lead behind them, before the instructions of the operations.
-use Rattle.std.proofs.Common.{◌≡◌, ℕ, zero, suc, ◌+◌, ◌*◌, ◌^◌, ◌<◌, ◌≤◌, Bool, true, false, List, [], ◌∷◌, ◌++◌, length, map, take, Some, refl, sym, ap, ◌∙◌, arith, length-append, subst}
+use Rattle.std.proofs.Common.{◌≡◌, ℕ, zero, suc, ◌+◌, ◌*◌, ◌^◌, ◌<◌, ◌≤◌, Bool, true, false, List, [], ◌∷◌, ◌++◌, length, map, take, Some, None, refl, sym, ap, ◌∙◌, arith, length-append, subst}
 use Rattle.std.specs.Prelude.{slice_get, ◌||◌}
 use Rattle.std.specs.List.{AllByRecursion}
 use Rattle.std.proofs.lemmas.List.{length-map}
@@ -12,18 +12,19 @@ use Rattle.relocs.specs.Words.{raw_at}
 use Rattle.lift_blocks.specs.Listed.{entry_places, starts, code_places}
 use Rattle.lift_blocks.proofs.Order.{place_self}
 use Rattle.pvm_ops.specs.declared.instr.Instr.{Instr}
-use Rattle.pvm_ops.specs.Listing.{packed}
 use Rattle.pvm_ops.specs.Opcodes.{form_of}
 use Rattle.pvm_ops.specs.Spelling.{spelling}
 use Rattle.jump_table.specs.Assembly.{spelled, jump, offset, entry_len, start_of}
-use Rattle.blob_codec.specs.Grammar.{Container, program_with, container_bytes, IsContainer}
+use Rattle.blob_codec.specs.Grammar.{container_bytes, IsContainer}
 use Rattle.lower.specs.Lowering.{lower_op, lowered_blocks}
 use Rattle.lower.specs.Laws.{EntriesBegin}
 use Rattle.lower.proofs.Lists.{from_map}
-use Rattle.link_core.specs.Assembling.{Marked, empty, append}
+use Rattle.layout.specs.Faults.{layout_fault}
+use Rattle.layout.specs.Laws.{AlignedIsLeast}
+use Rattle.link_core.specs.Assembling.{Marked, empty, append, container_with}
 use Rattle.link_core.specs.Linked.{Linked, IsLinked, HoldsLinked}
 use Rattle.link_core.specs.Laws.{LinkedAgrees}
-use Rattle.link_core.specs.MapText.{entry_lines}
+use Rattle.link_core.specs.MapText.{entry_lines, data_lines}
 use Rattle.link_core.specs.Straight.{straight, instrs_at, size, first_number, start_of_place, lifted_of, entry_position, entry_positions, jumps_to, straight_instrs, IsStartOf}
 use Rattle.link_core.proofs.Placing.{bytes-append, append-append}
 use Rattle.link_core.proofs.LinkSteps.{Behind}
@@ -110,16 +111,12 @@ code_is given positions body code e is_body is =
     ∙ append-append empty (jumps_to 0 positions) (instrs_at given (code_places given))
     ∙ ap (λ ps. append empty (jumps_to 0 ps ++ instrs_at given (code_places given))) e
 
--- the container of code without data
-abbrev pub container_with : ℕ → Marked → Container
-container_with stack code = record { read_only = []; writable = []; zero_pages = 0; stack = stack; program = program_with [] 1 code.bytes (packed code.marks) }
-
-pub container_is : (given : Given) (stack : ℕ) (code : Marked) → code ≡ append empty (straight_instrs given) → container_with stack code ≡ plain_container stack (straight_instrs given)
+pub container_is : (given : Given) (code : Marked) → code ≡ append empty (straight_instrs given) → container_with given code ≡ plain_container given (straight_instrs given)
 unfolding append
-container_is given stack code e = ap (container_with stack) e
+container_is given code e = ap (container_with given) e
 
-pub is_container : (given : Given) (stack : ℕ) (code : Marked) → code ≡ append empty (straight_instrs given) → stack < 2 ^ 24 → size (straight_instrs given) ≤ 2 ^ 25 → IsContainer (container_with stack code)
-is_container given stack code e small few = subst IsContainer (sym (container_is given stack code e)) (fits stack (straight_instrs given) small few)
+pub is_container : AlignedIsLeast → (given : Given) (code : Marked) → code ≡ append empty (straight_instrs given) → layout_fault given ≡ None → given.wanted.stack < 2 ^ 24 → size (straight_instrs given) ≤ 2 ^ 25 → IsContainer (container_with given code)
+is_container aligned_is_least given code e laid small few = subst IsContainer (sym (container_is given code e)) (fits aligned_is_least given (straight_instrs given) laid small few)
 
 module _ (entries_begin : EntriesBegin) (given : Given) (built : AllByRecursion (IsBuiltAt given) (all_places given)) (starts_of : AllByRecursion (IsStartOf given) (entry_places given)) where
   positions_from : (ps : List CodePlace) → ((entry : ℕ) (p : CodePlace) → slice_get ps entry ≡ Some p → start_of (lowered_blocks (lifted_of given)) (block_of (starts given true (code_places given)) (first_number given p)) ≡ entry_position given p) → map (start_of (lowered_blocks (lifted_of given))) (map (block_of (starts given true (code_places given))) (map (first_number given) ps)) ≡ map (entry_position given) ps
@@ -131,15 +128,16 @@ module _ (entries_begin : EntriesBegin) (given : Given) (built : AllByRecursion 
   positions_are = positions_from (entry_places given) (λ entry p e. entry_start entries_begin given built starts_of entry p e (among (entry_places given) entry p e) (at_index (IsStartOf given) (entry_places given) entry p starts_of e))
 
   -- what is linked
-  pub holds : LinkedAgrees → (positions : List ℕ) (code : Marked) (stack : ℕ) (linked : Linked) → positions ≡ entry_positions given → code ≡ append empty (straight_instrs given) → stack ≡ given.wanted.stack → stack < 2 ^ 24 → size (straight_instrs given) ≤ 2 ^ 25 → linked.container ≡ container_bytes (container_with stack code) → linked.map ≡ entry_lines 0 given.wanted.entries positions → HoldsLinked given linked
+  pub holds : LinkedAgrees → AlignedIsLeast → (positions : List ℕ) (code : Marked) (linked : Linked) → positions ≡ entry_positions given → code ≡ append empty (straight_instrs given) → layout_fault given ≡ None → given.wanted.stack < 2 ^ 24 → size (straight_instrs given) ≤ 2 ^ 25
+      → linked.container ≡ container_bytes (container_with given code) → linked.map ≡ entry_lines 0 given.wanted.entries positions ++ data_lines given → HoldsLinked given linked
   unfolding straight_is_linked
-  holds agrees positions code stack linked e is stack_is small few bytes text =
-      let container = plain_container given.wanted.stack (straight_instrs given) in
-      let linked_is : IsLinked given container = straight_is_linked entries_begin given built starts_of (subst (λ n. n < 2 ^ 24) stack_is small) few in
+  holds agrees aligned_is_least positions code linked e is laid small few bytes text =
+      let container = plain_container given (straight_instrs given) in
+      let linked_is : IsLinked given container = straight_is_linked entries_begin given built starts_of aligned_is_least laid small few in
       record {
         container = container;
-        spelled = bytes ∙ ap container_bytes (container_is given stack code is ∙ ap (λ n. plain_container n (straight_instrs given)) stack_is);
+        spelled = bytes ∙ ap container_bytes (container_is given code is);
         is_linked = linked_is;
         agrees = agrees given container linked_is;
-        map_is = text ∙ ap (entry_lines 0 given.wanted.entries) (e ∙ sym positions_are);
+        map_is = text ∙ ap (λ ps. entry_lines 0 given.wanted.entries ps ++ data_lines given) (e ∙ sym positions_are);
       }

@@ -6,7 +6,8 @@ use Rattle.std.proofs.lemmas.List.{append-nil}
 use Rattle.std.proofs.lemmas.List.FromFn.{map-range_with_len_more}
 use Rattle.elf_objects.specs.Objects.{Section}
 use Rattle.symbols.specs.Wanted.{Given}
-use Rattle.relocs.specs.Places.{is_code, is_kept, code_if, code_at, sections_of, section_places, object_places, objects_places}
+use Rattle.relocs.specs.Places.{is_kept, code_if, code_at, sections_of, section_places, object_places, objects_places}
+use Rattle.layout.specs.Sections.{is_code}
 use Rattle.lift_blocks.specs.Listed.{is_emitted}
 use Rattle.link_core.specs.Assembling.{Marked, empty, append}
 use Rattle.link_core.specs.Straight.{instrs_at, places_before, start_at}
@@ -40,7 +41,7 @@ section_is_whole given o s bytes e f code = by_section (slice_get (sections_of (
     by_kind section false k c offsets = absurd cc
     by_kind section true k c offsets =
         let content : section.content ≡ bytes = cc in
-        let none : word_offset section.content ≡ None = ap (λ b. if b then word_offset section.content else None) (sym k) ∙ (lesser_none _ _ (lesser_none _ _ offsets).1).1 in
+        let none : word_offset section.content ≡ None = ap (λ b. if b then word_offset section.content else None) (sym k) ∙ (lesser_none _ _ offsets).1 in
         are_whole o s bytes (ap word_offset (sym content) ∙ none) words
 
     by_section : (x : Option Section) → code_if (is_kept given o s) x ≡ Some bytes → section_unbuilt o s x ≡ None → IsWhole bytes

@@ -13,7 +13,8 @@ use Rattle.rv_decode.specs.Operations.{operation}
 use Rattle.rv_decode.specs.declared.ops.RvOp.{RvOp}
 use Rattle.rv_decode.specs.declared.ops.RvOp.TheVariants as rv
 use Rattle.symbols.specs.Wanted.{Given}
-use Rattle.relocs.specs.Places.{CodePlace, Code, is_code, is_kept, code_if, code_at, sections_of, places_from, section_places, object_places, objects_places, all_places}
+use Rattle.relocs.specs.Places.{CodePlace, Code, is_kept, code_if, code_at, sections_of, places_from, section_places, object_places, objects_places, all_places}
+use Rattle.layout.specs.Sections.{is_code}
 use Rattle.relocs.specs.Words.{is_linked, linked, linked_operation, word_at, decoded, standing, is_code_offset}
 use Rattle.link_core.specs.WordFaults.{fault_of, word_fault, fault_at, section_fault, object_word_fault, first_word_fault}
 use Rattle.lift_blocks.specs.Listed.{entry_places}
@@ -131,7 +132,7 @@ module _ (given : Given) where
       by_kind false f = (let none : code_at given o s ≡ None = code ∙ ap (λ b. if b then Some section.content else None) f in rw none tt)
       by_kind true f =
           let here : code_at given o s ≡ Some section.content = code ∙ ap (λ b. if b then Some section.content else None) f in
-          let whole : IsWhole section.content = are_whole o s section.content (ap (λ b. if b then word_offset section.content else None) (sym f) ∙ (lesser_none _ _ (lesser_none _ _ offsets).1).1) (ap (section_fault o s) (sym here) ∙ words) in
+          let whole : IsWhole section.content = are_whole o s section.content (ap (λ b. if b then word_offset section.content else None) (sym f) ∙ (lesser_none _ _ offsets).1) (ap (section_fault o s) (sym here) ∙ words) in
           subst (λ c. AllByRecursion (IsBuiltAt given) (section_places o s c)) (sym here) (built_from o s section.content 0 0 (length section.content / 4 + 1) here whole (omega arith) (omega arith))
 
   in_object : (o s count : ℕ) → s + count ≡ length (sections_of (slice_get given.objects o)) → object_unbuilt given o ≡ None → object_word_fault given o ≡ None → AllByRecursion (IsBuiltAt given) (object_places given o s count)

@@ -1,7 +1,11 @@
 -- Straight code is the linked program of its objects.
-use Rattle.std.proofs.Common.{◌≡◌, ◌^◌, ◌<◌, ◌≤◌, [], length, sym, ap}
+use Rattle.std.proofs.Common.{◌≡◌, ◌^◌, ◌<◌, ◌≤◌, [], length, None, sym, ap}
 use Rattle.std.specs.List.{AllByRecursion}
 use Rattle.symbols.specs.Wanted.{Given}
+use Rattle.layout.specs.Addresses.{zero_pages}
+use Rattle.layout.specs.Faults.{layout_fault}
+use Rattle.layout.specs.Laws.{AlignedIsLeast}
+use Rattle.relocs.specs.Images.{read_only_image, writable_image}
 use Rattle.relocs.specs.Places.{all_places}
 use Rattle.lift_blocks.specs.Listed.{entry_places}
 use Rattle.pvm_ops.specs.Listing.{Listing}
@@ -20,16 +24,16 @@ module _ (entries_begin : EntriesBegin) (given : Given) (built : AllByRecursion 
   unfolding code_of
   code_is = ap listing_of (code_instrs_are entries_begin given built starts_of)
 
-  pub container_is : plain_container given.wanted.stack (straight_instrs given) ≡ container_of given (lifted_of given)
+  pub container_is : plain_container given (straight_instrs given) ≡ container_of given (lifted_of given)
   container_is =
-      let container : Listing → Container = λ code. record { read_only = []; writable = []; zero_pages = 0; stack = given.wanted.stack; program = record { table = []; width = 1; code = code } } in
+      let container : Listing → Container = λ code. record { read_only = read_only_image given; writable = writable_image given; zero_pages = zero_pages given; stack = given.wanted.stack; program = record { table = []; width = 1; code = code } } in
       ap container (sym code_is)
 
-  unfoldable pub straight_is_linked : given.wanted.stack < 2 ^ 24 → length (listing_of (straight_instrs given)).bytes ≤ 2 ^ 25 → IsLinked given (plain_container given.wanted.stack (straight_instrs given))
-  straight_is_linked stack few = record {
+  unfoldable pub straight_is_linked : AlignedIsLeast → layout_fault given ≡ None → given.wanted.stack < 2 ^ 24 → length (listing_of (straight_instrs given)).bytes ≤ 2 ^ 25 → IsLinked given (plain_container given (straight_instrs given))
+  straight_is_linked aligned_is_least laid stack few = record {
     lifted = lifted_of given;
     is_lifted = is_lifted given built starts_of;
     container_is = container_is;
-    fits = fits given.wanted.stack (straight_instrs given) stack few;
+    fits = fits aligned_is_least given (straight_instrs given) laid stack few;
     small = few;
   }

@@ -2,7 +2,12 @@
 use Rattle.std.specs.Prelude.{ℕ, List, [], ◌++◌, Bool, IsTrue, map}
 use Rattle.runs.specs.Joined.{joined}
 use Rattle.runs.specs.Marks.{marks}
+use Rattle.symbols.specs.Wanted.{Given}
+use Rattle.layout.specs.Addresses.{zero_pages}
+use Rattle.relocs.specs.Images.{read_only_image, writable_image}
+use Rattle.blob_codec.specs.Grammar.{Container, program_with}
 use Rattle.pvm_ops.specs.declared.instr.Instr.{Instr}
+use Rattle.pvm_ops.specs.Listing.{packed}
 use Rattle.pvm_ops.specs.Opcodes.{is_known}
 use Rattle.pvm_ops.specs.Spelling.{IsEncodable}
 use Rattle.jump_table.specs.Assembly.{spelled, offset_len}
@@ -24,3 +29,13 @@ append m instrs = record { bytes = m.bytes ++ joined (spelled instrs); marks = m
 pub record IsPlaceable (i : Instr) : Type 0 where
   pub known : IsTrue (is_known i.op)
   pub encodable : IsEncodable i offset_len
+
+-- the container of the objects' data and of code without a jump table
+abbrev pub container_with : Given → Marked → Container
+container_with given code = record {
+  read_only = read_only_image given;
+  writable = writable_image given;
+  zero_pages = zero_pages given;
+  stack = given.wanted.stack;
+  program = program_with [] 1 code.bytes (packed code.marks);
+}

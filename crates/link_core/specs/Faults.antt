@@ -1,6 +1,6 @@
 -- The faults of a link, in the order in which the first of them is told: those of the objects, those of symbols and
--- entries, too much code, words without an operation, what isn't linked so far, and too large a program.
-use Rattle.std.specs.Prelude.{◌≡◌, ℕ, zero, suc, ◌+◌, ◌^◌, List, length, nat_lt, Option, Some, None, slice_get}
+-- entries, too much data or code, words without an operation, what isn't linked so far, and too large a program.
+use Rattle.std.specs.Prelude.{◌≡◌, ℕ, ◌^◌, List, length, nat_lt, Option, Some, None, slice_get}
 use Rattle.std.specs.Option.{option_map}
 use Rattle.std.specs.List.{filter_map}
 use Rattle.faults.specs.First.{◌or_else◌, where_true, first_below}
@@ -10,11 +10,11 @@ use Rattle.elf_objects.specs.Faults.{faults_of}
 use Rattle.elf_objects.specs.Reading.{in_object, object_of}
 use Rattle.symbols.specs.Wanted.{Wanted, Given}
 use Rattle.symbols.specs.Faults.{symbol_faults}
-use Rattle.relocs.specs.Places.{code_at, sections_of}
+use Rattle.layout.specs.Faults.{whole, layout_fault}
 use Rattle.link_core.specs.Straight.{size, straight_instrs}
 use Rattle.link_core.specs.Unbuilt.{first_unbuilt}
 use Rattle.link_core.specs.WordFaults.{first_word_fault}
-use Rattle.link_core.specs.declared.linker.TheConstants.{CODE_TOO_LARGE, CODE_BYTES_TOO_LARGE}
+use Rattle.link_core.specs.declared.linker.TheConstants.{CODE_BYTES_TOO_LARGE}
 use Rattle.link_core.specs.declared.link_fault.LinkFault.{LinkFault}
 use Rattle.link_core.specs.declared.link_fault.LinkFault.TheVariants.{Bad, Memory}
 
@@ -31,31 +31,6 @@ object_faults files = first_below (length files) (λ at. object_fault at (slice_
 abbrev pub given_of : List (List ℕ) → Wanted → Given
 given_of files wanted = record { objects = filter_map object_of files; wanted = wanted }
 
--- a fault of the link as a whole
-abbrev pub whole : ℕ → Fault
-whole code = record { code = code; object = 0; section = 0; offset = 0 }
-
--- the sum of the numbers at 0, 1, .. below n
-unfoldable pub sum_below : ℕ → (ℕ → ℕ) → ℕ
-sum_below zero at = 0
-sum_below (suc n) at = sum_below n at + at n
-
-abbrev pub length_of : Option (List ℕ) → ℕ
-length_of None = 0
-length_of (Some bytes) = length bytes
-
--- how many bytes the Code sections of an object have, and those of all objects
-abbrev pub object_code_size : Given → ℕ → ℕ
-object_code_size given o =
-    sum_below (length (sections_of (slice_get given.objects o))) (λ s. length_of (code_at given o s))
-
-abbrev pub code_size : Given → ℕ
-code_size given = sum_below (length given.objects) (object_code_size given)
-
--- more than 2^24 bytes of code
-abbrev pub size_fault : Given → Option Fault
-size_fault given = where_true (nat_lt (2 ^ 24) (code_size given)) (whole CODE_TOO_LARGE)
-
 -- more than 2^25 bytes in the program's code
 abbrev pub bytes_fault : Given → Option Fault
 bytes_fault given = where_true (nat_lt (2 ^ 25) (size (straight_instrs given))) (whole CODE_BYTES_TOO_LARGE)
@@ -63,11 +38,15 @@ bytes_fault given = where_true (nat_lt (2 ^ 25) (size (straight_instrs given))) 
 -- of code
 abbrev pub code_fault : Given → Option Fault
 code_fault given =
-    size_fault given or_else first_word_fault given or_else first_unbuilt given or_else bytes_fault given
+    first_word_fault given or_else first_unbuilt given or_else bytes_fault given
+
+-- of data and code
+abbrev pub placed_fault : Given → Option Fault
+placed_fault given = layout_fault given or_else code_fault given
 
 -- of objects without a fault of their own, with wanted names
 abbrev pub given_fault : Given → Option Fault
-given_fault given = first_in (symbol_faults given) or_else code_fault given
+given_fault given = first_in (symbol_faults given) or_else placed_fault given
 
 -- The first fault of a link of files with wanted names. None where it can be linked.
 abbrev pub first_fault : List (List ℕ) → Wanted → Option Fault

@@ -11,3 +11,4 @@ pub mod Sites
 pub mod MapText
 pub mod Faults
 pub mod WordFaults
+pub mod DataParts

@@ -3,6 +3,8 @@ use Rattle.elf_objects.specs.declared.fault.ObjectFault.{ObjectFault}
 use Rattle.elf_objects.specs.declared.fault.ObjectFault.TheVariants as object
 use Rattle.symbols.specs.declared.fault.SymbolFault.{SymbolFault}
 use Rattle.symbols.specs.declared.fault.SymbolFault.TheVariants as symbol
+use Rattle.layout.specs.declared.fault.LayoutFault.{LayoutFault}
+use Rattle.layout.specs.declared.fault.LayoutFault.TheVariants as layout
 use Rattle.link_core.specs.declared.link_fault.LinkFault.{LinkFault}
 use Rattle.link_core.specs.declared.link_fault.LinkFault.TheVariants.{Bad, Memory}
 
@@ -15,3 +17,8 @@ of_object object.Memory = Memory
 abbrev pub of_symbols : SymbolFault → LinkFault
 of_symbols (symbol.Bad fault) = Bad fault
 of_symbols symbol.Memory = Memory
+
+-- a fault of the layout
+abbrev pub of_layout : LayoutFault → LinkFault
+of_layout (layout.Bad fault) = Bad fault
+of_layout layout.Memory = Memory

@@ -1,6 +1,8 @@
 -- What a linked program is.
-use Rattle.std.specs.Prelude.{◌≡◌, ℕ, ◌≤◌, ◌^◌, List, [], length}
+use Rattle.std.specs.Prelude.{◌≡◌, ℕ, ◌≤◌, ◌^◌, List, length}
 use Rattle.symbols.specs.Wanted.{Given}
+use Rattle.layout.specs.Addresses.{zero_pages}
+use Rattle.relocs.specs.Images.{read_only_image, writable_image}
 use Rattle.lift_blocks.specs.Listed.{Lifted, IsLifted}
 use Rattle.lower.specs.Lowering.{lowered_blocks}
 use Rattle.pvm_ops.specs.BlockList.{BlockList}
@@ -13,12 +15,18 @@ use Rattle.link_core.specs.MapText.{map_text}
 abbrev pub program_of : BlockList → Program
 program_of list = record { table = table_of list; width = width_of (table_of list); code = code_of list }
 
--- the container of the operations in code order: so far there are no data
+-- the container of the objects' data and of the operations in code order
 abbrev pub container_of : Given → Lifted → Container
-container_of given lifted = record { read_only = []; writable = []; zero_pages = 0; stack = given.wanted.stack; program = program_of (lowered_blocks lifted) }
+container_of given lifted = record {
+  read_only = read_only_image given;
+  writable = writable_image given;
+  zero_pages = zero_pages given;
+  stack = given.wanted.stack;
+  program = program_of (lowered_blocks lifted);
+}
 
--- The container is that of the objects' operations: they in code order, cut into blocks, lowered and placed. So it is
--- determined by what the link was given.
+-- The container is that of the objects: their data at their addresses, and their operations in code order, cut into
+-- blocks, lowered and placed. So it is determined by what the link was given.
 pub record IsLinked (given : Given) (c : Container) : Type 0 where
   pub lifted : Lifted
   pub is_lifted : IsLifted given lifted

@@ -1,18 +1,25 @@
 -- The two runs: that of the objects, by steps, and that of the linked program, under gas.
-use Rattle.std.specs.Prelude.{ℕ, List, []}
+use Rattle.std.specs.Prelude.{ℕ, List}
 use Rattle.runs.specs.Runs.{Steps, Paid, run}
 use Rattle.machine_state.specs.Ends.{Event, End, no_host}
 use Rattle.machine_state.specs.Start.{Image, start_state}
 use Rattle.symbols.specs.Wanted.{Given}
+use Rattle.layout.specs.Addresses.{zero_pages}
+use Rattle.relocs.specs.Images.{read_only_image, writable_image}
 use Rattle.lift_blocks.specs.Listed.{entry_places, place}
 use Rattle.lift_blocks.specs.Step.{source_step}
 use Rattle.pvm_machine.specs.Started.{started}
 use Rattle.pvm_machine.specs.Ran.{run_of}
 use Rattle.blob_codec.specs.Grammar.{Container}
 
--- what the objects start with: so far they have no data, and so only a stack
+-- what the objects start with: their data, and a stack
 abbrev pub image_of : Given → Image
-image_of given = record { read_only = []; writable = []; zero_pages = 0; stack = given.wanted.stack }
+image_of given = record {
+  read_only = read_only_image given;
+  writable = writable_image given;
+  zero_pages = zero_pages given;
+  stack = given.wanted.stack;
+}
 
 -- So many steps of the objects, from the standard start with an argument, at the place of the entry with a number.
 -- No host answers yet: no operation that is built calls one.

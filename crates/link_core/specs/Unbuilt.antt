@@ -1,5 +1,5 @@
--- What objects and wanted names may have that isn't linked so far, each at its place: data, relocations, words, and entries
--- that aren't at the start of a section. It is refused with code 63, the least place first.
+-- What objects and wanted names may have that isn't linked so far, each at its place: relocations, words, and entries that
+-- aren't at the start of a section. It is refused with code 63, the least place first.
 use Rattle.std.specs.Prelude.{ℕ, zero, suc, ◌+◌, ◌*◌, ◌/◌, List, length, Bool, false, not, ◌&&◌, ◌||◌, ◌==◌, nat_eq, nat_le, nat_lt, if◌then◌else◌, Option, Some, None, Result, Ok, Err, slice_get}
 use Rattle.std.specs.Option.{option_map}
 use Rattle.faults.specs.First.{where_true, first_below, least_below}
@@ -11,7 +11,8 @@ use Rattle.rv_decode.specs.declared.ops.RvOp.{RvOp}
 use Rattle.rv_decode.specs.declared.ops.WordFault.{WordFault}
 use Rattle.rv_decode.specs.Operations.{operation}
 use Rattle.symbols.specs.Wanted.{Given}
-use Rattle.relocs.specs.Places.{CodePlace, Code, Stub, Nowhere, is_code, sections_of}
+use Rattle.relocs.specs.Places.{CodePlace, Code, Stub, Nowhere, sections_of}
+use Rattle.layout.specs.Sections.{is_code}
 use Rattle.relocs.specs.Words.{is_linked, word_at}
 use Rattle.lift_blocks.specs.Listed.{entry_places}
 use Rattle.symbols.specs.Faults.{is_loaded, has_effect}
@@ -26,10 +27,6 @@ lesser (Some a) (Some b) = Some (if nat_le a b then a else b)
 unfoldable pub least_among : ℕ → (ℕ → Option ℕ) → Option ℕ
 least_among zero at = None
 least_among (suc n) at = lesser (least_among n at) (at n)
-
--- bytes that are loaded and are no code
-abbrev pub has_data : Section → Bool
-has_data section = is_loaded section.kind && not (is_code section.kind) && not (section.size == 0)
 
 -- where a relocation stands that changes something
 abbrev pub effect_offset : Option Relocation → Option ℕ
@@ -62,9 +59,8 @@ word_offset bytes =
 -- the least offset of a section at which something isn't built, where the section is loaded
 abbrev pub section_offset : Section → Option ℕ
 section_offset section =
-    lesser (where_true (has_data section) 0)
-    (lesser (if is_loaded section.kind then relocation_offset section else None)
-    (if is_code section.kind then word_offset section.content else None))
+    lesser (if is_loaded section.kind then relocation_offset section else None)
+    (if is_code section.kind then word_offset section.content else None)
 
 abbrev pub unbuilt : ℕ → ℕ → ℕ → Fault
 unbuilt object section offset = record { code = NOT_BUILT; object = object; section = section; offset = offset }

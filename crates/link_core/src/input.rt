@@ -1,38 +1,47 @@
 //! What a link is given, and its parts by their numbers.
 
-ghost use Rattle.std.specs.Prelude.{◌≡◌, ◌≤◌, ◌<◌, [], length, slice_get, Some, IsSomeAnd};
+ghost use Rattle.std.specs.Prelude.{◌≡◌, ◌≢◌, ◌≤◌, ◌<◌, ◌^◌, [], length, slice_get, Some, None, IsSomeAnd};
 ghost use Rattle.std.specs.Option.{option_copied};
 ghost use Rattle.elf_objects.specs.Objects.{ShowsSection, relocations_of};
 ghost use Rattle.symbols.specs.Wanted.{Given};
 ghost use Rattle.symbols.specs.Resolved.{IsResolved};
 ghost use Rattle.symbols.specs.Faults.{symbol_faults};
 ghost use Rattle.symbols.specs.Parts.{object_at};
+ghost use Rattle.layout.specs.Addresses.{address_of, read_only_len, zero_pages};
+ghost use Rattle.layout.specs.Faults.{layout_fault};
+ghost use Rattle.layout.specs.Placed.{IsPlaced};
 ghost use Rattle.relocs.specs.Places.{Code, code_at, sections_of};
 ghost use Rattle.lift_blocks.specs.Listed.{entry_places};
 ghost use Rattle.std.specs.List.{AllByRecursion};
+ghost use Rattle.link_core.specs.DataParts.{start_of};
 ghost use Rattle.link_core.specs.Sites.{code_place, IsInCode};
 
+use crate::data_part::DataPart;
 use elf_objects::{Objects, Relocation, Section, SectionKind};
+use layout::Placed;
 use std::marker::Model;
 use symbols::{Place, Resolved, Wanted};
 
-/// Objects and wanted names without a fault in their symbols, and what the names stand for.
+/// Objects and wanted names without a fault in their symbols and their layout, what the names stand for, and where the
+/// data are loaded.
 #[derive(Drop)]
 pub(crate) struct Input<'a> {
     objects: &'a Objects<'a>,
     wanted: &'a Wanted,
     resolved: &'a Resolved,
+    placed: &'a Placed,
 }
 
 impl<'a> Model for Input<'a> {
     ghost use Rattle.symbols.specs.Wanted.{Given as TheGiven};
+    ghost use Rattle.layout.specs.Placed.{IsPlaced};
     ghost use Rattle.link_core.specs.Sites.{IsInput};
 
     ghost Value = { TheGiven };
 
     ghost view = { λ i. record { objects = i.objects.now; wanted = i.wanted.now } };
 
-    ghost invariant = { λ i. IsInput (record { objects = i.objects.now; wanted = i.wanted.now }) i.resolved.now };
+    ghost invariant = { λ i. let given : TheGiven = record { objects = i.objects.now; wanted = i.wanted.now } in record { input : IsInput given i.resolved.now; placed : IsPlaced given i.placed.now } };
 }
 
 /// A section by the numbers of its object and its own, and an offset in it in bytes.
@@ -48,14 +57,17 @@ impl<'a> Input<'a> {
         objects: &'a Objects<'a>,
         wanted: &'a Wanted,
         resolved: &'a Resolved,
+        placed: &'a Placed,
     ) -> Input<'a>
-        requires { let given : Given = record { objects = objects.now; wanted = wanted.now } in IsResolved given resolved.now × (symbol_faults given ≡ []) }
+        requires resolved { let given : Given = record { objects = objects.now; wanted = wanted.now } in IsResolved given resolved.now × (symbol_faults given ≡ []) }
+        requires placed { let given : Given = record { objects = objects.now; wanted = wanted.now } in IsPlaced given placed.now }
         ensures { result ≡ record { objects = objects.now; wanted = wanted.now } }
     {
         Input {
             objects,
             wanted,
             resolved,
+            placed,
         }
     }
 
@@ -111,6 +123,33 @@ impl<'a> Input<'a> {
         }
     }
 
+    /// The address of a section. Code has none, nor what isn't loaded.
+    pub(crate) fn address(&self, object: u32, section: u32) -> Option<u32>
+        requires { section < length (sections_of (slice_get self.now.objects object)) }
+        ensures { result ≡ address_of self.now object section }
+    {
+        self.placed.address(object, section)
+    }
+
+    /// Where a part of data begins that has bytes in the files.
+    pub(crate) fn start(&self, part: DataPart) -> u32
+        requires { part ≢ DataPart.Zero }
+        ensures { result ≡ start_of self.now part }
+    {
+        match part {
+            DataPart::Writable => 0x2_0000
+                + 0x1_0000 * self.placed.read_only_len().div_ceil(0x1_0000),
+            _ => 0x1_0000,
+        }
+    }
+
+    /// How many pages of zeros the data need behind those of the writable part.
+    pub(crate) fn zero_pages(&self) -> u32
+        ensures { result ≡ zero_pages self.now }
+    {
+        self.placed.zero_pages()
+    }
+
     /// How many entries are wanted.
     pub(crate) fn entries(&self) -> u32
         ensures count { result ≡ length (entry_places self.now) }
@@ -141,6 +180,14 @@ impl<'a> Input<'a> {
                 offset: 0,
             },
         }
+    }
+
+    /// The data and the stack fit a container. It does nothing.
+    pub(crate) fn fits(&self)
+        ensures laid_out { layout_fault self.now ≡ None }
+        ensures stack { self.now.wanted.stack < 2 ^ 24 }
+    {
+        let _stack = self.wanted.stack();
     }
 
     /// What is wanted of the objects.

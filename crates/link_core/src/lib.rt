@@ -9,6 +9,8 @@ ghost use Rattle.link_core.specs.Laws.{LinkedAgrees};
 
 mod assembly;
 mod bundle;
+mod data_part;
+mod image;
 mod input;
 mod link_fault;
 mod linker;
@@ -23,7 +25,7 @@ pub use bundle::Bundle;
 use jump_table::code_is_placed;
 use lift_blocks::source_lock;
 pub use link_fault::LinkFault;
-pub use linker::{CODE_BYTES_TOO_LARGE, CODE_TOO_LARGE, Linked, link};
+pub use linker::{CODE_BYTES_TOO_LARGE, Linked, link};
 use lower::blocks_are_carried_out;
 use machine_state::start_is_good;
 use pvm_machine::effects_keep_targets;

@@ -1,8 +1,9 @@
 ghost use Rattle.std.specs.Prelude.{◌≡◌};
 ghost use Rattle.link_core.specs.declared.link_fault.LinkFault.TheVariants.{Memory};
-ghost use Rattle.link_core.specs.LinkFaults.{of_object, of_symbols};
+ghost use Rattle.link_core.specs.LinkFaults.{of_object, of_symbols, of_layout};
 
 use elf_objects::{Fault, ObjectFault};
+use layout::LayoutFault;
 use std::alloc::AllocError;
 use symbols::SymbolFault;
 use thiserror::Error;
@@ -44,6 +45,17 @@ impl From<SymbolFault> for LinkFault {
         match fault {
             SymbolFault::Bad(fault) => LinkFault::Bad(fault),
             SymbolFault::Memory => LinkFault::Memory,
+        }
+    }
+}
+
+impl From<LayoutFault> for LinkFault {
+    ghost from_gives = { λ layout_fault fault. fault ≡ of_layout layout_fault };
+
+    fn from(fault: LayoutFault) -> LinkFault {
+        match fault {
+            LayoutFault::Bad(fault) => LinkFault::Bad(fault),
+            LayoutFault::Memory => LinkFault::Memory,
         }
     }
 }

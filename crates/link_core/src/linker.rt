@@ -4,30 +4,32 @@ ghost use Rattle.std.specs.Prelude.{◌≡◌, ◌≤◌, ◌<◌, ◌^◌, ◌+
 ghost use Rattle.std.specs.List.{filter_map, AllByRecursion};
 ghost use Rattle.std.specs.Io.KnownBytes.{Appends};
 ghost use Rattle.outside.specs.Outside.{AppendsFront, HasCause};
-ghost use Rattle.pvm_ops.specs.Listing.{packed};
-ghost use Rattle.blob_codec.specs.Grammar.{IsContainer, program_with, container_bytes};
+ghost use Rattle.blob_codec.specs.Grammar.{IsContainer, container_bytes};
 ghost use Rattle.elf_objects.specs.Reading.{object_of};
 ghost use Rattle.symbols.specs.Wanted.{Given};
 ghost use Rattle.lift_blocks.specs.Listed.{entry_places, code_places};
-ghost use Rattle.link_core.specs.Faults.{first_fault, object_faults, given_fault, given_of, code_fault, code_size, object_code_size, whole, FailsWith};
+ghost use Rattle.link_core.specs.Faults.{first_fault, object_faults, given_fault, given_of, code_fault, FailsWith};
 ghost use Rattle.link_core.specs.Linked.{HoldsLinked};
-ghost use Rattle.link_core.specs.Assembling.{empty, append};
+ghost use Rattle.link_core.specs.Assembling.{empty, append, container_with};
 ghost use Rattle.link_core.specs.Straight.{jumps_to, instrs_at, size, straight_instrs, IsStartOf, IsStartTable};
 ghost use Rattle.link_core.specs.Unbuilt.{first_unbuilt};
 ghost use Rattle.link_core.specs.WordFaults.{first_word_fault};
 
 use crate::assembly::Assembly;
 use crate::bundle::Bundle;
+use crate::data_part::DataPart;
+use crate::image::image;
 use crate::input::Input;
 use crate::link_fault::LinkFault;
 use crate::linked_agrees;
 use crate::lowering::entry_jump;
-use crate::map_text::entry_lines;
+use crate::map_text::{entry_lines, push_data_lines};
 use crate::straight::{ENTRY_LEN, Straight, entry_positions, place_objects};
 use crate::unbuilt::first_unbuilt;
 use crate::word_faults::first_word_fault;
 use blob_codec::{Parts, write_container, write_program};
 use elf_objects::{Fault, Object, Objects};
+use layout::{aligned_is_least, place_all};
 use lower::blocks_are_carried_out;
 use outside::{Failed, Sink};
 use pvm_ops::Bytes8;
@@ -35,14 +37,8 @@ use std::alloc::{AllocError, Global};
 use std::marker::Model;
 use symbols::{Wanted, resolve};
 
-/// The code of Code sections with more than 2^24 bytes together.
-pub const CODE_TOO_LARGE: u8 = 17;
-
 /// The code of a program of more than 2^25 bytes.
 pub const CODE_BYTES_TOO_LARGE: u8 = 32;
-
-/// The most bytes of all Code sections.
-const CODE_LIMIT: u64 = 1 << 24;
 
 /// The most bytes of a program's code.
 const CODE_BYTES_LIMIT: usize = 1 << 25;
@@ -73,8 +69,9 @@ impl Linked {
         self.container.as_slice()
     }
 
-    /// Puts the map, a line for each entry: `entry I PPPPPPPP NAME`, with its number, the position of its first instruction
-    /// in eight hexadecimal digits, and its name.
+    /// Puts the map: a line for each entry, `entry I PPPPPPPP NAME`, with its number, the position of its first instruction
+    /// in eight hexadecimal digits, and its name; and one for each section of data that has bytes, by address,
+    /// `data AAAAAAAA SSSSSSSS O:S`, with its address, its size, and the numbers of its object and its own.
     ///
     /// # Errors
     /// Where the put fails; a front of the map was put then.
@@ -88,13 +85,13 @@ impl Linked {
 }
 
 /// Links the objects of a bundle, in its order, into the program that is wanted. So far objects are linked whose loaded
-/// sections are code without relocations, of operations on registers and immediates, `lui`, `fence`, traps and `ret`, with
-/// entries at the starts of sections.
+/// sections have no relocation that changes something, and whose code is of operations on registers and immediates, `lui`,
+/// loads, stores, `fence`, traps and `ret`, with entries at the starts of sections.
 ///
 /// # Errors
 /// `Bad` with the first fault, exactly where there is one: of an object (codes 1 to 8), of symbols and entries (9 to 13),
-/// too much code (17), a word without an operation (20 to 23), a form that isn't linked so far (63), or too large a program
-/// (32). And `Memory`.
+/// too much data or code (14 to 17), a word without an operation (20 to 23), a form that isn't linked so far (63), or too
+/// large a program (32). And `Memory`.
 pub fn link(alloc: Global, bundle: &Bundle, wanted: &Wanted) -> Result<Linked, LinkFault>
     ensures { MatchResult result
         (λ linked. (first_fault bundle.now wanted.now ≡ None) × HoldsLinked (given_of bundle.now wanted.now) linked)
@@ -124,18 +121,16 @@ fn link_objects(alloc: Global, objects: &Objects<'_>, wanted: &Wanted) -> Result
         (FailsWith (given_fault given)) }
 {
     let resolved = resolve(alloc, objects, wanted)?;
-    link_input(alloc, &Input::new(objects, wanted, &resolved))
+    let placed = place_all(alloc, objects, &resolved, wanted.stack())?;
+    link_input(alloc, &Input::new(objects, wanted, &resolved, &placed))
 }
 
-/// Links what has no fault in its symbols.
+/// Links what has no fault in its symbols and its layout.
 fn link_input(alloc: Global, input: &Input<'_>) -> Result<Linked, LinkFault>
     ensures { MatchResult result
         (λ linked. (code_fault input.now ≡ None) × HoldsLinked input.now linked)
         (FailsWith (code_fault input.now)) }
 {
-    if is_code_large(input) {
-        return Err(LinkFault::Bad(whole(CODE_TOO_LARGE)));
-    }
     if let Some(fault) = first_word_fault(input) {
         return Err(LinkFault::Bad(fault));
     }
@@ -145,56 +140,14 @@ fn link_input(alloc: Global, input: &Input<'_>) -> Result<Linked, LinkFault>
     let entries = input.entries();
     let straight = place_objects(alloc, input)?;
     if straight.code.code().len() > CODE_BYTES_LIMIT - (ENTRY_LEN * entries) as usize {
-        return Err(LinkFault::Bad(whole(CODE_BYTES_TOO_LARGE)));
+        return Err(LinkFault::Bad(Fault {
+            code: CODE_BYTES_TOO_LARGE,
+            object: 0,
+            section: 0,
+            offset: 0,
+        }));
     }
     Ok(finish(alloc, input, &straight)?)
-}
-
-/// A fault of a link as a whole.
-fn whole(code: u8) -> Fault
-    ensures { result ≡ whole code }
-{
-    Fault {
-        code,
-        object: 0,
-        section: 0,
-        offset: 0,
-    }
-}
-
-/// Whether all code sections together have more than 2^24 bytes.
-fn is_code_large(input: &Input<'_>) -> bool
-    ensures { result ≡ nat_lt (2 ^ 24) (code_size input.now) }
-{
-    let mut size = 0;
-    for object in 0..input.objects() {
-        let Some(more) = code_with(input, object, size) else {
-            return true;
-        };
-        size = more;
-    }
-    false
-}
-
-/// So many bytes and those of an object's code sections, unless they are more than 2^24 together.
-fn code_with(input: &Input<'_>, object: u32, before: u64) -> Option<u64>
-    requires object { object < length input.now.objects }
-    requires before { before ≤ 2 ^ 24 }
-    ensures { MatchOption result
-        (2 ^ 24 < before + object_code_size input.now object)
-        (λ size. (size ≡ before + object_code_size input.now object) × (size ≤ 2 ^ 24)) }
-{
-    let mut size = before;
-    for section in 0..input.sections(object) {
-        if let Some(text) = input.text(object, section) {
-            let len = text.len() as u64;
-            if len > CODE_LIMIT - size {
-                return None;
-            }
-            size += len;
-        }
-    }
-    Some(size)
 }
 
 /// The entries' jumps before the code, and all of it in a container.
@@ -210,25 +163,30 @@ fn finish(alloc: Global, input: &Input<'_>, straight: &Straight) -> Result<Linke
 {
     linked_agrees();
     blocks_are_carried_out();
+    aligned_is_least();
+    input.fits();
     let positions = entry_positions(alloc, input, &straight.starts)?;
     let code = with_jumps(alloc, &positions, &straight.code)?;
-    let container = write(alloc, input.wanted().stack(), &code)?;
-    let map = entry_lines(alloc, input.wanted(), &positions)?;
+    let container = write(alloc, input, &code)?;
+    let mut map = entry_lines(alloc, input.wanted(), &positions)?;
+    push_data_lines(input, &mut map)?;
     Ok(Linked { container, map })
 }
 
-/// The container of code without data and without a jump table.
-fn write(alloc: Global, stack: u32, code: &Assembly) -> Result<Bytes8, AllocError>
-    requires { IsContainer (record { read_only = []; writable = []; zero_pages = 0; stack = stack; program = program_with [] 1 code.now.bytes (packed code.now.marks) }) }
-    ensures { IfOk result (λ bytes. bytes ≡ container_bytes (record { read_only = []; writable = []; zero_pages = 0; stack = stack; program = program_with [] 1 code.now.bytes (packed code.now.marks) })) }
+/// The container of data and code, without a jump table.
+fn write(alloc: Global, input: &Input<'_>, code: &Assembly) -> Result<Bytes8, AllocError>
+    requires { IsContainer (container_with input.now code.now) }
+    ensures { IfOk result (λ bytes. bytes ≡ container_bytes (container_with input.now code.now)) }
 {
     let mask = code.mask(alloc)?;
     let program = write_program(alloc, &[], TABLE_WIDTH, code.code(), mask.as_slice())?;
+    let read_only = image(alloc, input, DataPart::ReadOnly)?;
+    let writable = image(alloc, input, DataPart::Writable)?;
     let parts = Parts {
-        read_only: &[],
-        writable: &[],
-        zero_pages: 0,
-        stack,
+        read_only: &read_only,
+        writable: &writable,
+        zero_pages: input.zero_pages(),
+        stack: input.wanted().stack(),
         program: program.as_slice(),
     };
     write_container(alloc, &parts)

@@ -1,8 +1,8 @@
 //! What isn't linked so far, each at its place.
 
-ghost use Rattle.std.specs.Prelude.{◌≡◌, ◌<◌, ◌*◌, ◌+◌, ◌/◌, length, slice_get, Some, None, IsSomeAnd, ◌&&◌, not, ◌==◌};
-ghost use Rattle.faults.specs.First.{where_true};
-ghost use Rattle.relocs.specs.Places.{is_code, sections_of};
+ghost use Rattle.std.specs.Prelude.{◌≡◌, ◌<◌, ◌*◌, ◌+◌, ◌/◌, length, slice_get, Some, None, IsSomeAnd};
+ghost use Rattle.relocs.specs.Places.{sections_of};
+ghost use Rattle.layout.specs.Sections.{is_code};
 ghost use Rattle.lift_blocks.specs.Listed.{entry_places};
 ghost use Rattle.link_core.specs.Unbuilt.{lesser, effect_offset, relocation_offset, word_count, word_offset, section_offset};
 ghost use Rattle.link_core.specs.Unbuilt.{unbuilt, section_unbuilt, object_unbuilt, sections_unbuilt, entry_unbuilt, stands_before};
@@ -87,18 +87,7 @@ fn section_offset(input: &Input<'_>, object: u32, section: u32) -> Option<u64>
     } else {
         None
     };
-    lesser(data_offset(lent.kind, lent.size), lesser(relocation, word))
-}
-
-/// Where the data of a section of this kind and size begin, if it has some.
-fn data_offset(kind: SectionKind, size: u64) -> Option<u64>
-    ensures { result ≡ where_true (is_loaded kind && not (is_code kind) && not (size == 0)) 0 }
-{
-    if is_loaded(kind) && !is_code(kind) && size != 0 {
-        Some(0)
-    } else {
-        None
-    }
+    lesser(relocation, word)
 }
 
 /// Whether a section of this kind takes part in the program.

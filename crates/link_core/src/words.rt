@@ -91,6 +91,8 @@ fn is_linked(op: &RvOp) -> bool
     matches!(
         *op,
         RvOp::Lui { .. }
+            | RvOp::Load { .. }
+            | RvOp::Store { .. }
             | RvOp::OpImm { .. }
             | RvOp::Op { .. }
             | RvOp::Fence

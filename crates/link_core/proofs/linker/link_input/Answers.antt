@@ -1,9 +1,9 @@
-use Rattle.std.proofs.Common.{◌<◌, ◌≤◌, ◌^◌, Some, sym, ap, ◌∙◌, length, arith}
+use Rattle.std.proofs.Common.{◌<◌, ◌≤◌, ◌^◌, sym, ap, ◌∙◌, length, arith}
 use Rattle.std.proofs.lemmas.Bool.{lt-ltb, le-ltb}
 use Rattle.link_core.specs.Straight.{size, straight_instrs}
 use Rattle.link_core.proofs.StraightBuilt.{all_starts}
 use Rattle.link_core.proofs.LinkedCode.{straight_size, code_size}
-use Rattle.link_core.proofs.LinkFaultsTold.{told-size, told-words, told-unbuilt, told-bytes, none-told}
+use Rattle.link_core.proofs.LinkFaultsTold.{told-words, told-unbuilt, told-bytes, none-told}
 use Rattle.link_core.proofs.linker.link_input.Goals as goal
 
 pub place_objects-requires : goal.place_objects-requires
@@ -26,27 +26,22 @@ finish-requires c =
       starts = c.in_ok-straight.ensures.starts;
     }
 
-pub returns-then-is_code_large : goal.returns-then-is_code_large
-returns-then-is_code_large c =
-    told-size c.args.input.now (sym c.is_code_large.ensures ∙ c.if-is_code_large.true) ∙ ap Some (sym c.whole.ensures)
-
 pub returns-in-Some : goal.returns-in-Some
 returns-in-Some c =
-    told-words c.args.input.now c.in-Some.fault (sym c.is_code_large.ensures ∙ c.if-is_code_large.false) (sym c.first_word_fault.ensures ∙ c.in-Some.is)
+    told-words c.args.input.now c.in-Some.fault (sym c.first_word_fault.ensures ∙ c.in-Some.is)
 
 pub returns-in-Some-first_unbuilt : goal.returns-in-Some-first_unbuilt
 returns-in-Some-first_unbuilt c =
-    told-unbuilt c.args.input.now c.in-Some-first_unbuilt.fault (sym c.is_code_large.ensures ∙ c.if-is_code_large.false) (sym c.in_default.ensures) (sym c.first_unbuilt.ensures ∙ c.in-Some-first_unbuilt.is)
+    told-unbuilt c.args.input.now c.in-Some-first_unbuilt.fault (sym c.in_default.ensures) (sym c.first_unbuilt.ensures ∙ c.in-Some-first_unbuilt.is)
 
 pub returns-then-code-entries : goal.returns-then-code-entries
 returns-then-code-entries c =
     let given = c.args.input.now in
     let large : 2 ^ 25 < size (straight_instrs given) = omega (arith, straight_size given, code_size given c.in_ok-straight.straight.code c.in_ok-straight.ensures.code, ap length c.code.ensures, c.entries-entries.ensures.count, c.entries-entries.ensures.few, c.if-code-entries.true) in
-    told-bytes given (sym c.is_code_large.ensures ∙ c.if-is_code_large.false) (sym c.in_default.ensures) (sym c.in_default-first_unbuilt.ensures) (lt-ltb (2 ^ 25) (size (straight_instrs given)) large)
-    ∙ ap Some (sym c.whole-then-code-entries.ensures)
+    told-bytes given (sym c.in_default.ensures) (sym c.in_default-first_unbuilt.ensures) (lt-ltb (2 ^ 25) (size (straight_instrs given)) large)
 
 pub returns : goal.returns
 returns c =
     let given = c.args.input.now in
     let fits : size (straight_instrs given) ≤ 2 ^ 25 = omega (arith, straight_size given, code_size given c.in_ok-straight.straight.code c.in_ok-straight.ensures.code, ap length c.code.ensures, c.entries-entries.ensures.count, c.entries-entries.ensures.few, c.if-code-entries.false) in
-    (none-told given (sym c.is_code_large.ensures ∙ c.if-is_code_large.false) (sym c.in_default.ensures) (sym c.in_default-first_unbuilt.ensures) (le-ltb (2 ^ 25) (size (straight_instrs given)) fits), c.in_ok-finish.ensures)
+    (none-told given (sym c.in_default.ensures) (sym c.in_default-first_unbuilt.ensures) (le-ltb (2 ^ 25) (size (straight_instrs given)) fits), c.in_ok-finish.ensures)
