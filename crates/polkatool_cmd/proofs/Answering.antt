@@ -13,6 +13,7 @@ use Rattle.pvm_machine.specs.declared.answers.Exit.{Exit}
 use Rattle.pvm_machine.specs.declared.answers.Exit.TheVariants as exit
 use Rattle.polkatool_cmd.specs.declared.answer.Answer.{Answer}
 use Rattle.polkatool_cmd.specs.declared.answer.Answer.TheVariants as answers
+use Rattle.polkatool_cmd.specs.Commands.{RunCommand}
 use Rattle.polkatool_cmd.specs.Faults.{too_large}
 use Rattle.polkatool_cmd.specs.Answers.{HoldsRun, RunComesTo}
 use Rattle.polkatool_cmd.specs.World.{World, Holds, HasFault}
@@ -50,43 +51,50 @@ held-read (Some files) name limit bytes answer = answer.0
 
 -- a run whose transcript was told on out, with nothing else changed, is what the run comes to
 pub RunComesTo-told :
-    (entry gas : ℕ) (blob : List ℕ) (run : Paid Event End) (answer : Answer) (old new : World)
-    → HoldsRun old.files entry gas blob run
+    (asked : RunCommand) (run : Paid Event End) (answer : Answer) (old new : World)
+    → HoldsRun old.files asked run
     → Tells run answer (record { text = old.out; puts = old.puts }) (record { text = new.out; puts = new.puts })
     → new ≡ record old { out = new.out; puts = new.puts }
-    → RunComesTo entry gas blob answer old new
-RunComesTo-told entry gas blob run answers.Done old new holds told others = record {
+    → RunComesTo asked answer old new
+RunComesTo-told asked run answers.Done old new holds told others = record {
   run = run;
   is_run = holds;
   ended = told.ended;
   told = told.told;
   others = others ∙ ap (λ puts. record old { out = new.out; puts = puts }) told.puts;
 }
-RunComesTo-told entry gas blob run answers.Panicked old new holds told others = record {
+RunComesTo-told asked run answers.Panicked old new holds told others = record {
   run = run;
   is_run = holds;
   ended = told.ended;
   told = told.told;
   others = others ∙ ap (λ puts. record old { out = new.out; puts = puts }) told.puts;
 }
-RunComesTo-told entry gas blob run answers.OutOfGas old new holds told others = record {
+RunComesTo-told asked run answers.Faulted old new holds told others = record {
   run = run;
   is_run = holds;
   ended = told.ended;
   told = told.told;
   others = others ∙ ap (λ puts. record old { out = new.out; puts = puts }) told.puts;
 }
-RunComesTo-told entry gas blob run (answers.Refused fault) old new holds told others = absurd told
-RunComesTo-told entry gas blob run answers.Usage old new holds told others = absurd told
-RunComesTo-told entry gas blob run answers.FileFault old new holds told others =
+RunComesTo-told asked run answers.OutOfGas old new holds told others = record {
+  run = run;
+  is_run = holds;
+  ended = told.ended;
+  told = told.told;
+  others = others ∙ ap (λ puts. record old { out = new.out; puts = puts }) told.puts;
+}
+RunComesTo-told asked run (answers.Refused fault) old new holds told others = absurd told
+RunComesTo-told asked run answers.Usage old new holds told others = absurd told
+RunComesTo-told asked run answers.FileFault old new holds told others =
     inr (record { run = run; is_run = holds; told = told.told; cause = told.cause; others = others })
-RunComesTo-told entry gas blob run answers.Memory old new holds told others = absurd told
+RunComesTo-told asked run answers.Memory old new holds told others = absurd told
 
 -- what a run came to, where its answer is one that is given so far
 pub run_of-exit : (old new : Machine) (e : Exit) → IsRun old new (last_answer e) → IsGivenSoFar (last_answer e) → run_of old ≡ record { events = []; end = end_of e new.state; left = new.gas; begun = old.gas - new.gas }
 run_of-exit old new exit.Halt run given = run
 run_of-exit old new exit.Panic run given = run
-run_of-exit old new (exit.Fault address) run given = absurd given
+run_of-exit old new (exit.Fault address) run given = run
 run_of-exit old new exit.OutOfGas run given = run
 run_of-exit old new (exit.Host number) run given = absurd given
 run_of-exit old new exit.Memory run given = absurd given

@@ -10,6 +10,7 @@ use Rattle.polkatool_cmd.specs.declared.answer.Answer.{Answer}
 use Rattle.polkatool_cmd.specs.declared.answer.Answer.TheVariants as answers
 use Rattle.polkatool_cmd.specs.Faults.{too_large}
 use Rattle.polkatool_cmd.specs.BlobFaults.{first_blob_fault}
+use Rattle.polkatool_cmd.specs.Commands.{RunCommand}
 use Rattle.polkatool_cmd.specs.RunFaults.{run_fault_in}
 use Rattle.polkatool_cmd.specs.Answers.{TextComesTo, RunComesTo}
 use Rattle.polkatool_cmd.specs.World.{World, HasFault}
@@ -41,18 +42,19 @@ unchanged old new others kept = others ∙ ap (λ reads. record old { reads = re
 
 -- a run whose blob wasn't read
 pub RunComesTo-unread :
-    (entry gas : ℕ) (blob : List ℕ) (answer : Answer) (old new : World)
-    → FailsToRead old.files blob old.reads new.reads answer → new ≡ record old { reads = new.reads }
-    → RunComesTo entry gas blob answer old new
-RunComesTo-unread entry gas blob answers.Done old new fails others = absurd fails
-RunComesTo-unread entry gas blob answers.Panicked old new fails others = absurd fails
-RunComesTo-unread entry gas blob answers.OutOfGas old new fails others = absurd fails
-RunComesTo-unread entry gas blob (answers.Refused fault) old new fails others =
-    (HasFault-long (run_fault_in entry) old.files blob fault fails.0 fails.1, unchanged old new others fails.2)
-RunComesTo-unread entry gas blob answers.Usage old new fails others = absurd fails
-RunComesTo-unread entry gas blob answers.FileFault old new fails others =
+    (asked : RunCommand) (answer : Answer) (old new : World)
+    → FailsToRead old.files asked.blob old.reads new.reads answer → new ≡ record old { reads = new.reads }
+    → RunComesTo asked answer old new
+RunComesTo-unread asked answers.Done old new fails others = absurd fails
+RunComesTo-unread asked answers.Panicked old new fails others = absurd fails
+RunComesTo-unread asked answers.Faulted old new fails others = absurd fails
+RunComesTo-unread asked answers.OutOfGas old new fails others = absurd fails
+RunComesTo-unread asked (answers.Refused fault) old new fails others =
+    (HasFault-long (run_fault_in asked.entry asked.argument) old.files asked.blob fault fails.0 fails.1, unchanged old new others fails.2)
+RunComesTo-unread asked answers.Usage old new fails others = absurd fails
+RunComesTo-unread asked answers.FileFault old new fails others =
     inl (record { later = fails.0; cause = fails.1; others = others })
-RunComesTo-unread entry gas blob answers.Memory old new fails others = unchanged old new others fails
+RunComesTo-unread asked answers.Memory old new fails others = unchanged old new others fails
 
 -- a command that puts a text, whose blob wasn't read
 pub TextComesTo-unread :
@@ -62,6 +64,7 @@ pub TextComesTo-unread :
     → TextComesTo (first_blob_fault fault_in) text_of blob answer old new
 TextComesTo-unread fault_in text_of blob answers.Done old new fails others = absurd fails
 TextComesTo-unread fault_in text_of blob answers.Panicked old new fails others = absurd fails
+TextComesTo-unread fault_in text_of blob answers.Faulted old new fails others = absurd fails
 TextComesTo-unread fault_in text_of blob answers.OutOfGas old new fails others = absurd fails
 TextComesTo-unread fault_in text_of blob (answers.Refused fault) old new fails others =
     (HasFault-long fault_in old.files blob fault fails.0 fails.1, unchanged old new others fails.2)

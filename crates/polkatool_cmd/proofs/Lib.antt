@@ -3,9 +3,12 @@ mod Naming
 mod LinkItems
 mod Importing
 mod LastSign
-mod Data
 mod Digits
-mod Zeros
+mod Hexadecimal
+mod Arguments
+mod Ranges
+mod RunFaults
+mod Lines
 mod Answering
 mod Reading
 mod Blobs

@@ -98,6 +98,7 @@ fails_to_read told names files at left before now name answers.FileFault h there
 fails_to_read told names files at left before now name answers.Memory h there fails = fails
 fails_to_read told names files at left before now name answers.Done h there fails = absurd fails
 fails_to_read told names files at left before now name answers.Panicked h there fails = absurd fails
+fails_to_read told names files at left before now name answers.Faulted h there fails = absurd fails
 fails_to_read told names files at left before now name answers.OutOfGas h there fails = absurd fails
 fails_to_read told names files at left before now name answers.Usage h there fails = absurd fails
 

@@ -9,7 +9,7 @@ use Rattle.blob_codec.specs.Grammar.{Container}
 use Rattle.blob_codec.specs.Reading.{container_of}
 use Rattle.disasm.specs.Disassembly.{disassembly}
 use Rattle.link_core.specs.Runs.{machine_run}
-use Rattle.polkatool_cmd.specs.Commands.{Command, Link, Run, Check, Disassemble}
+use Rattle.polkatool_cmd.specs.Commands.{Command, Link, Run, Check, Disassemble, RunCommand}
 use Rattle.polkatool_cmd.specs.World.{World, Stream, Holds, HasFault, FailedRead}
 use Rattle.polkatool_cmd.specs.LinkAnswers.{LinkComesTo}
 use Rattle.polkatool_cmd.specs.BlobFaults.{first_disassemble_fault}
@@ -31,42 +31,42 @@ pub record HoldsContainer (first_of : List ℕ → Option Fault) (files : Option
   pub no_fault : first_of file ≡ None
   pub is_container : container_of file ≡ Ok container
 
--- The name holds a container without a fault at the entry, and this is its run from there, without an argument and with
--- so much gas.
-pub record HoldsRun (files : Option Files) (entry gas : ℕ) (blob : List ℕ) (run : Paid Event End) : Type 0 where
+-- The name of the blob holds a container without a fault at the entry and with the argument, and this is its run from
+-- there, with this argument and with so much gas.
+pub record HoldsRun (files : Option Files) (asked : RunCommand) (run : Paid Event End) : Type 0 where
   pub container : Container
-  pub holds : HoldsContainer (first_run_fault entry) files blob container
-  pub run_is : run ≡ machine_run container entry [] gas
+  pub holds : HoldsContainer (first_run_fault asked.entry asked.argument) files asked.blob container
+  pub run_is : run ≡ machine_run container asked.entry asked.argument asked.gas
 
 -- The run ended with this status, and its transcript was put; all else is as before.
-pub record HasRun (entry gas : ℕ) (blob : List ℕ) (status : Status) (old new : World) : Type 0 where
+pub record HasRun (asked : RunCommand) (status : Status) (old new : World) : Type 0 where
   pub run : Paid Event End
-  pub is_run : HoldsRun old.files entry gas blob run
+  pub is_run : HoldsRun old.files asked run
   pub ended : status_of run.end ≡ status
   pub told : Appends old.out new.out (transcript run)
   pub others : new ≡ record old { out = new.out }
 
 -- A put of the run's transcript failed after a front of it; all else is as before.
-pub record FailedTranscript (entry gas : ℕ) (blob : List ℕ) (old new : World) : Type 0 where
+pub record FailedTranscript (asked : RunCommand) (old new : World) : Type 0 where
   pub run : Paid Event End
-  pub is_run : HoldsRun old.files entry gas blob run
+  pub is_run : HoldsRun old.files asked run
   pub told : AppendsFront old.out new.out (transcript run)
   pub cause : Rose old.puts new.puts
   pub others : new ≡ record old { out = new.out; puts = new.puts }
 
 -- What a run comes to: it ended, as the answer says, and is told; or it is refused with the first fault of the blob's
--- file at the entry; or a read or a put failed; or memory was refused. After a refusal and after want of memory all is
--- as before.
-abbrev pub RunComesTo : ℕ → ℕ → List ℕ → Answer → World → World → Type 0
-RunComesTo entry gas blob answers.Done old new = HasRun entry gas blob statuses.Done old new
-RunComesTo entry gas blob answers.Panicked old new = HasRun entry gas blob statuses.Panicked old new
-RunComesTo entry gas blob answers.OutOfGas old new = HasRun entry gas blob statuses.OutOfGas old new
-RunComesTo entry gas blob (answers.Refused fault) old new =
-    HasFault (first_run_fault entry) old.files blob (Some fault) × (new ≡ old)
-RunComesTo entry gas blob answers.Usage old new = ⊥
-RunComesTo entry gas blob answers.FileFault old new =
-    FailedRead blob old new ⊎ FailedTranscript entry gas blob old new
-RunComesTo entry gas blob answers.Memory old new = new ≡ old
+-- file at the entry and with the argument; or a read or a put failed; or memory was refused. After a refusal and after
+-- want of memory all is as before.
+abbrev pub RunComesTo : RunCommand → Answer → World → World → Type 0
+RunComesTo asked answers.Done old new = HasRun asked statuses.Done old new
+RunComesTo asked answers.Panicked old new = HasRun asked statuses.Panicked old new
+RunComesTo asked answers.Faulted old new = HasRun asked statuses.Faulted old new
+RunComesTo asked answers.OutOfGas old new = HasRun asked statuses.OutOfGas old new
+RunComesTo asked (answers.Refused fault) old new =
+    HasFault (first_run_fault asked.entry asked.argument) old.files asked.blob (Some fault) × (new ≡ old)
+RunComesTo asked answers.Usage old new = ⊥
+RunComesTo asked answers.FileFault old new = FailedRead asked.blob old new ⊎ FailedTranscript asked old new
+RunComesTo asked answers.Memory old new = new ≡ old
 
 -- The name holds a container without such a fault, and its text was put; all else is as before.
 pub record HasTold (first_of : List ℕ → Option Fault) (text_of : Container → List ℕ) (blob : List ℕ)
@@ -93,6 +93,7 @@ TextComesTo first_of text_of blob answers.Done old new = HasTold first_of text_o
 TextComesTo first_of text_of blob (answers.Refused fault) old new =
     HasFault first_of old.files blob (Some fault) × (new ≡ old)
 TextComesTo first_of text_of blob answers.Panicked old new = ⊥
+TextComesTo first_of text_of blob answers.Faulted old new = ⊥
 TextComesTo first_of text_of blob answers.OutOfGas old new = ⊥
 TextComesTo first_of text_of blob answers.Usage old new = ⊥
 TextComesTo first_of text_of blob answers.FileFault old new =
@@ -112,7 +113,7 @@ DisassembleComesTo blob answer old new =
 abbrev pub ComesTo : Option Command → Answer → World → World → Type 0
 ComesTo None answer old new = (answer ≡ answers.Usage) × (new ≡ old)
 ComesTo (Some (Link link)) answer old new = LinkComesTo link answer old new
-ComesTo (Some (Run entry gas blob)) answer old new = RunComesTo entry gas blob answer old new
+ComesTo (Some (Run run)) answer old new = RunComesTo run answer old new
 ComesTo (Some (Check blob)) answer old new = CheckComesTo blob answer old new
 ComesTo (Some (Disassemble blob)) answer old new = DisassembleComesTo blob answer old new
 
@@ -135,6 +136,7 @@ Puts line wanted status old new = IsPut line wanted status old new ⊎ IsNotPut 
 abbrev pub Reports : Answer → Status → Stream → Stream → Type 0
 Reports answers.Done status old new = (status ≡ statuses.Done) × (new ≡ old)
 Reports answers.Panicked status old new = (status ≡ statuses.Panicked) × (new ≡ old)
+Reports answers.Faulted status old new = (status ≡ statuses.Faulted) × (new ≡ old)
 Reports answers.OutOfGas status old new = (status ≡ statuses.OutOfGas) × (new ≡ old)
 Reports (answers.Refused fault) status old new = Puts (refused_line fault) statuses.Refused status old new
 Reports answers.Usage status old new = Puts usage_line statuses.Usage status old new
@@ -151,6 +153,6 @@ pub record Concludes (command : Option Command) (status : Status) (old new : Wor
 abbrev pub KeepsFiles : Option Command → Option Files → Option Files → Type 0
 KeepsFiles None old new = new ≡ old
 KeepsFiles (Some (Link link)) old new = KeepsOthers link.output old new
-KeepsFiles (Some (Run entry gas blob)) old new = new ≡ old
+KeepsFiles (Some (Run run)) old new = new ≡ old
 KeepsFiles (Some (Check blob)) old new = new ≡ old
 KeepsFiles (Some (Disassemble blob)) old new = new ≡ old

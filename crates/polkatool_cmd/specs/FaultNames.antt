@@ -17,14 +17,17 @@ link_name code =
     else (if code == 11 then codes "Undefined"
     else (if code == 12 then codes "EntryMissing"
     else (if code == 13 then codes "EntryNotCode"
+    else (if code == 14 then codes "RoTooLarge"
+    else (if code == 15 then codes "RwTooLarge"
+    else (if code == 16 then codes "ZeroTooLarge"
     else (if code == 17 then codes "CodeTooLarge"
     else (if code == 20 then codes "BadWord"
     else (if code == 21 then codes "BadRegister"
     else (if code == 22 then codes "Ecall"
     else (if code == 23 then codes "LoadToZero"
-    else codes "CodeBytesTooLarge")))))))))))))))))
+    else codes "CodeBytesTooLarge"))))))))))))))))))))
 
--- of a container, of a program and of a file's size, and of what isn't built yet, code 63, as the last
+-- of a container, of a run, of a program and of a file's size, and of what isn't built yet, code 63, as the last
 abbrev pub blob_name : ℕ → List ℕ
 blob_name code =
     if code == 40 then codes "Truncated"
@@ -32,6 +35,7 @@ blob_name code =
     else (if code == 42 then codes "BadWidth"
     else (if code == 43 then codes "BadPadding"
     else (if code == 44 then codes "LeftOver"
+    else (if code == 46 then codes "ArgumentTooLarge"
     else (if code == 47 then codes "BadEntry"
     else (if code == 50 then codes "NoFirst"
     else (if code == 51 then codes "UnknownOpcode"
@@ -39,7 +43,7 @@ blob_name code =
     else (if code == 53 then codes "BadEntry"
     else (if code == 54 then codes "OpenEnd"
     else (if code == 61 then codes "FileTooLarge"
-    else codes "NotBuilt")))))))))))
+    else codes "NotBuilt"))))))))))))
 
 -- the name of a fault's code
 abbrev pub name_of : ℕ → List ℕ

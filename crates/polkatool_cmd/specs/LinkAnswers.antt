@@ -83,6 +83,7 @@ LinkComesTo link answers.Done old new = HasLinked link old new
 LinkComesTo link (answers.Refused fault) old new =
     (HasLargeFile old.files link fault ⊎ HasObjectFault old.files link fault) × (new ≡ old)
 LinkComesTo link answers.Panicked old new = ⊥
+LinkComesTo link answers.Faulted old new = ⊥
 LinkComesTo link answers.OutOfGas old new = ⊥
 LinkComesTo link answers.Usage old new = ⊥
 LinkComesTo link answers.FileFault old new =

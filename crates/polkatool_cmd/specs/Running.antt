@@ -1,11 +1,9 @@
 -- What the parts of a run come to.
-use Rattle.std.specs.Prelude.{◌≡◌, ℕ, List, [], Option, Some, None, Ok, replicate}
+use Rattle.std.specs.Prelude.{◌≡◌, ℕ, List, Option, Some, None, Ok}
 use Rattle.std.specs.Io.KnownBytes.{Appends}
 use Rattle.runs.specs.Runs.{Paid}
-use Rattle.machine_state.specs.Memory.{Memory}
 use Rattle.machine_state.specs.State.{State}
 use Rattle.machine_state.specs.Ends.{Event, End, Panic, Fault, Unanswered, halt}
-use Rattle.machine_state.specs.Output.{bytes_at}
 use Rattle.outside.specs.Outside.{Rose, AppendsFront}
 use Rattle.blob_codec.specs.Grammar.{Container}
 use Rattle.blob_codec.specs.Reading.{container_of}
@@ -13,6 +11,7 @@ use Rattle.pvm_machine.specs.Machine.{Machine}
 use Rattle.pvm_machine.specs.Started.{started}
 use Rattle.pvm_machine.specs.declared.answers.Exit.{Exit}
 use Rattle.pvm_machine.specs.declared.answers.Exit.TheVariants as exit
+use Rattle.polkatool_cmd.specs.Commands.{RunCommand}
 use Rattle.polkatool_cmd.specs.RunFaults.{first_run_fault}
 use Rattle.polkatool_cmd.specs.Transcript.{transcript}
 use Rattle.polkatool_cmd.specs.Statuses.{status_of}
@@ -24,21 +23,17 @@ use Rattle.polkatool_cmd.specs.declared.run_fault.RunFault.TheVariants.{Bad, Mem
 use Rattle.polkatool_cmd.specs.declared.status.Status.{Status}
 use Rattle.polkatool_cmd.specs.declared.status.Status.TheVariants as statuses
 
--- the file is a container without a fault, and the machine is at the start of the entry
-pub record Starts (file : List ℕ) (entry gas : ℕ) (m : Machine) : Type 0 where
+-- the file is a container without a fault, and the machine is at the start that is asked for
+pub record Starts (file : List ℕ) (asked : RunCommand) (m : Machine) : Type 0 where
   pub container : Container
-  pub no_fault : first_run_fault entry file ≡ None
+  pub no_fault : first_run_fault asked.entry asked.argument file ≡ None
   pub is_container : container_of file ≡ Ok container
-  pub machine_is : m ≡ started container entry [] gas
+  pub machine_is : m ≡ started container asked.entry asked.argument asked.gas
 
 -- a program is not run because of the first fault of its file; memory may be refused at any time
-abbrev pub FailsToStart : List ℕ → ℕ → RunFault → Type 0
-FailsToStart file entry (Bad fault) = first_run_fault entry file ≡ Some fault
-FailsToStart file entry NoMemory = Unit {0}
-
--- every byte that may be read is zero
-abbrev pub IsZero : Memory → Type 0
-IsZero memory = (at len : ℕ) → bytes_at memory at len ≡ replicate len 0
+abbrev pub FailsToStart : List ℕ → RunCommand → RunFault → Type 0
+FailsToStart file asked (Bad fault) = first_run_fault asked.entry asked.argument file ≡ Some fault
+FailsToStart file asked NoMemory = Unit {0}
 
 -- the end of a run that a machine answers, with what it leaves
 abbrev pub end_of : Exit → State → Option End
@@ -49,15 +44,11 @@ end_of exit.OutOfGas s = None
 end_of (exit.Host number) s = Some (Unanswered number s.memory)
 end_of exit.Memory s = None
 
--- how many bytes an output has
-abbrev pub output_len : Option (ℕ × ℕ) → ℕ
-output_len None = 0
-output_len (Some range) = range.1
-
 -- the answer of a run with this status of its end
 abbrev pub EndsAs : Answer → Status → Type 0
 EndsAs answers.Done status = status ≡ statuses.Done
 EndsAs answers.Panicked status = status ≡ statuses.Panicked
+EndsAs answers.Faulted status = status ≡ statuses.Faulted
 EndsAs answers.OutOfGas status = status ≡ statuses.OutOfGas
 EndsAs answer status = ⊥
 
@@ -76,6 +67,7 @@ pub record IsNotTold (run : Paid Event End) (old new : Stream) : Type 0 where
 abbrev pub Tells : Paid Event End → Answer → Stream → Stream → Type 0
 Tells run answers.Done old new = IsTold run statuses.Done old new
 Tells run answers.Panicked old new = IsTold run statuses.Panicked old new
+Tells run answers.Faulted old new = IsTold run statuses.Faulted old new
 Tells run answers.OutOfGas old new = IsTold run statuses.OutOfGas old new
 Tells run answers.FileFault old new = IsNotTold run old new
 Tells run answer old new = ⊥

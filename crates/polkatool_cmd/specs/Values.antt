@@ -1,7 +1,10 @@
--- What a word stands for: the name of a file, or a number.
-use Rattle.std.specs.Prelude.{ℕ, ◌+◌, ◌-◌, ◌*◌, List, [], ◌∷◌, Bool, false, ◌&&◌, not, ◌==◌, nat_lt, if◌then◌else◌, Option, Some, None}
+-- What a word stands for: the name of a file, a number, or bytes.
+use Rattle.std.specs.Prelude.{◌≡◌, ℕ, ◌+◌, ◌-◌, ◌*◌, List, [], ◌∷◌, Bool, false, ◌&&◌, not, ◌==◌, nat_lt, if◌then◌else◌, Option, Some, None}
+use Rattle.std.specs.Option.{unwrap_or}
+use Rattle.std.specs.Result.{result_ok}
 use Rattle.std.specs.Char.{is_ascii_digit}
 use Rattle.std.specs.Str.{is_utf8}
+use Rattle.hex.specs.Hex.{decode_of}
 
 -- a word that names a file: it is not empty, and UTF-8
 abbrev pub is_name : List ℕ → Bool
@@ -36,3 +39,16 @@ number_below bound (b ∷ c ∷ bs) = if b == 48 then None else below bound (dig
 -- the name of a file that a word is
 abbrev pub file_of : List ℕ → Option (List ℕ)
 file_of word = if is_file word then Some word else None
+
+-- The bytes that a word spells, two hexadecimal digits of either case for each. None where it has another byte, or an odd
+-- number of them.
+abbrev pub argument_of : List ℕ → Option (List ℕ)
+argument_of word = result_ok (decode_of word)
+
+-- the bytes that a word spells, where it spells some
+abbrev pub spelled : List ℕ → List ℕ
+spelled word = unwrap_or (argument_of word) []
+
+-- a word that spells some
+abbrev pub IsSpelled : List ℕ → Type 0
+IsSpelled word = argument_of word ≡ Some (spelled word)

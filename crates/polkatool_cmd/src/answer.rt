@@ -7,6 +7,8 @@ pub(crate) enum Answer {
     Done,
     /// The program panicked, and its run was told.
     Panicked,
+    /// The program met a page fault, and its run was told.
+    Faulted,
     /// The program used up its gas, and its run was told.
     OutOfGas,
     /// The file has this fault.

@@ -1,3 +1,4 @@
+use crate::argument::Argument;
 use crate::link_command::LinkCommand;
 
 /// A command with its values.
@@ -11,10 +12,11 @@ pub(crate) enum Command<'a> {
     Disassemble(&'a str),
 }
 
-/// The run of a program from an entry with so much gas, by the name of its file.
+/// The run of a program from an entry with so much gas and an argument, by the name of its file.
 #[derive(Clone, Copy)]
 pub(crate) struct RunCommand<'a> {
     pub entry: u32,
     pub gas: u64,
+    pub argument: Argument<'a>,
     pub blob: &'a str,
 }

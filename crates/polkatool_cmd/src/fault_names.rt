@@ -3,7 +3,7 @@
 ghost use Rattle.std.specs.Prelude.{◌≡◌, ◌≤◌, length};
 ghost use Rattle.polkatool_cmd.specs.FaultNames.{name_of, link_name, blob_name};
 
-use link_core::CODE_TOO_LARGE;
+use layout::{CODE_TOO_LARGE, READ_ONLY_TOO_LARGE, WRITABLE_TOO_LARGE, ZERO_TOO_LARGE};
 use symbols::{COMMON, DUPLICATE, ENTRY_MISSING, ENTRY_NOT_CODE, UNDEFINED};
 
 /// The codes of what keeps a file from being an object.
@@ -42,6 +42,9 @@ pub(crate) const BAD_WIDTH: u8 = 42;
 pub(crate) const BAD_PADDING: u8 = 43;
 
 pub(crate) const LEFT_OVER: u8 = 44;
+
+/// The code of a run with an argument of too many bytes.
+pub(crate) const ARGUMENT_TOO_LARGE: u8 = 46;
 
 /// The code of a program at whose entry no block starts.
 pub(crate) const BAD_ENTRY: u8 = 47;
@@ -94,6 +97,9 @@ fn link_fault_name(code: u8) -> &'static str
         UNDEFINED => "Undefined",
         ENTRY_MISSING => "EntryMissing",
         ENTRY_NOT_CODE => "EntryNotCode",
+        READ_ONLY_TOO_LARGE => "RoTooLarge",
+        WRITABLE_TOO_LARGE => "RwTooLarge",
+        ZERO_TOO_LARGE => "ZeroTooLarge",
         CODE_TOO_LARGE => "CodeTooLarge",
         BAD_WORD => "BadWord",
         BAD_REGISTER => "BadRegister",
@@ -103,7 +109,7 @@ fn link_fault_name(code: u8) -> &'static str
     }
 }
 
-/// The name of a fault of a container, of a program or of a file's size, and of what isn't built yet.
+/// The name of a fault of a container, of a run, of a program or of a file's size, and of what isn't built yet.
 fn blob_fault_name(code: u8) -> &'static str
     ensures name { result.now ≡ blob_name code }
     ensures short { length result.now ≤ 18 }
@@ -114,6 +120,7 @@ fn blob_fault_name(code: u8) -> &'static str
         BAD_WIDTH => "BadWidth",
         BAD_PADDING => "BadPadding",
         LEFT_OVER => "LeftOver",
+        ARGUMENT_TOO_LARGE => "ArgumentTooLarge",
         BAD_ENTRY => "BadEntry",
         NO_FIRST => "NoFirst",
         UNKNOWN_OPCODE => "UnknownOpcode",

@@ -10,6 +10,7 @@ ghost use Rattle.polkatool_cmd.specs.Commands.{command_of};
 ghost use Rattle.polkatool_cmd.specs.Answers.{Concludes, KeepsFiles};
 
 mod answer;
+mod argument;
 mod blob;
 #[cfg(test)]
 mod blob_tests;
@@ -23,6 +24,9 @@ mod link_objects;
 mod link_words;
 #[cfg(test)]
 mod link_words_tests;
+#[cfg(test)]
+mod memory_tests;
+mod output;
 mod report;
 mod run;
 mod run_fault;
@@ -47,10 +51,12 @@ pub use words::Words;
 ///
 /// The words are `link` and, in any order, `-o OUT`, `-e NAME` and `-i NAME=NUMBER` or `-i NAME=sbrk` any number of times,
 /// `--stack N`, and OBJ once or more: the objects in the files OBJ are linked into the file OUT with the entries of these
-/// names, `main` without any, and the map is put on out. Or they are `run` and, in any order, BLOB, `--entry I` and `--gas N`: the container in the file BLOB is run from entry I,
-/// 0 without it, with gas N, 10,000,000 without it, and the transcript of the run is put on out. Or they are `check BLOB`:
-/// where the container's program has no fault, `ok` and a line feed are put on out. Or `disassemble BLOB`: the text of the
-/// program is put on out, whatever a check would say. All other words are a faulty command line, for which no memory is taken.
+/// names, `main` without any, and the map is put on out. Or they are `run` and, in any order, BLOB, `--entry I`, `--gas N`
+/// and `--arg HEX`: the container in the file BLOB is run from entry I, 0 without it, with gas N, 10,000,000 without it, and
+/// with the bytes that the digits HEX spell as its argument, none without it, and the transcript of the run is put on out.
+/// Or they are `check BLOB`: where the container's program has no fault, `ok` and a line feed are put on out. Or
+/// `disassemble BLOB`: the text of the program is put on out, whatever a check would say. All other words are a faulty
+/// command line, for which no memory is taken.
 pub fn polkatool<F: Folder, O: Sink, E: Sink>(
     alloc: Global,
     words: &Words,

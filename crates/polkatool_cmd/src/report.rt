@@ -43,6 +43,7 @@ pub(crate) fn report<E: Sink>(answer: Answer, err: &mut E) -> Status
     match answer {
         Answer::Done => Status::Done,
         Answer::Panicked => Status::Panicked,
+        Answer::Faulted => Status::Faulted,
         Answer::OutOfGas => Status::OutOfGas,
         Answer::Refused(fault) => put_line(refused_line(&fault).as_str(), Status::Refused, err),
         Answer::Usage => put_line(USAGE, Status::Usage, err),

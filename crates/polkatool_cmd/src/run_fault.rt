@@ -2,14 +2,15 @@
 
 ghost use Rattle.std.specs.Prelude.{◌≡◌, length};
 ghost use Rattle.faults.specs.First.{least_below};
-ghost use Rattle.polkatool_cmd.specs.declared.run_fault.RunFault.TheVariants.{Bad};
+ghost use Rattle.polkatool_cmd.specs.declared.run_fault.RunFault.TheVariants.{Bad, Memory};
 ghost use Rattle.polkatool_cmd.specs.BlobFaults.{no_container};
-ghost use Rattle.polkatool_cmd.specs.RunFaults.{has_data, unbuilt_form, is_unbuilt, is_unbuilt_at};
+ghost use Rattle.polkatool_cmd.specs.RunFaults.{unbuilt_form, is_unbuilt, is_unbuilt_at};
 
-use crate::blob::{blob_fault, blob_fault_at, no_container};
+use crate::blob::{blob_fault_at, no_container};
 use blob_codec::{BlobFault, Container};
 use elf_objects::{Fault, NOT_BUILT};
 use pvm_ops::Code;
+use std::alloc::AllocError;
 
 /// Why the program of a file isn't run.
 #[derive(Clone, Copy, Debug, PartialEq, Eq)]
@@ -28,26 +29,22 @@ impl From<BlobFault> for RunFault {
     }
 }
 
-/// The least form of a container that isn't built so far, if there is one. It takes no memory.
+impl From<AllocError> for RunFault {
+    ghost from_gives = { λ _ fault. fault ≡ Memory };
+
+    fn from(_: AllocError) -> RunFault {
+        RunFault::Memory
+    }
+}
+
+/// The least instruction of a container that isn't run so far, if there is one, as a fault. It takes no memory.
 pub(crate) fn unbuilt_form(container: &Container<'_>) -> Option<Fault>
     ensures { result ≡ unbuilt_form container.now }
 {
-    if has_data(container) {
-        return Some(blob_fault(NOT_BUILT));
-    }
     match least_unbuilt(&container.program().code()) {
         Some(at) => Some(blob_fault_at(NOT_BUILT, at)),
         None => None,
     }
-}
-
-/// Whether a container has data or zero pages.
-fn has_data(container: &Container<'_>) -> bool
-    ensures { result ≡ has_data container.now }
-{
-    !(container.read_only().is_empty()
-        && container.writable().is_empty()
-        && container.zero_pages() == 0)
 }
 
 /// The least position at which an instruction that isn't run so far is marked.
@@ -73,5 +70,5 @@ fn is_unbuilt_at(code: &Code<'_>, at: usize) -> bool
 fn is_unbuilt(op: u8) -> bool
     ensures { result ≡ is_unbuilt op }
 {
-    matches!(op, 10 | 30..=33 | 52..=62 | 70..=73 | 101 | 120..=130)
+    matches!(op, 10 | 101)
 }

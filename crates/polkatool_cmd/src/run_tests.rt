@@ -19,6 +19,9 @@ pub(crate) const FIVE: &[u8; 15] = b"\x00\x01\x0a\x28\x05\0\0\0\x33\x07\x05\x32\
 /// A program whose code is `load_imm a0, 5` and, at position 3, `ecalli 0`.
 const OF_A_CALL: &[u8; 9] = b"\x00\x01\x05\x33\x07\x05\x0a\0\x09";
 
+/// A program whose code is `load_imm a0, 5` and, at position 3, `sbrk a0, a0`.
+const OF_GROWTH: &[u8; 9] = b"\x00\x01\x05\x33\x07\x05\x65\x77\x09";
+
 /// Its container has a byte of read-only data.
 pub(crate) const OF_READ_ONLY_DATA: [u8; 25] = [
     1, 0, 0, 0, 0, 0, 0, 0, 0, 0, 1, 0x2a, 0x09, 0, 0, 0, 0, 0x01, 0x05, 0x33, 0x07, 0x05, 0x0a, 0,
@@ -293,12 +296,15 @@ fn refuses_what_is_no_container(rt: HostRuntime) -> Result<(), Fail> {
     Ok(())
 }
 
-/// An opcode that isn't run is told where it stands, before an entry that isn't there; data before both.
+/// An opcode that isn't run is told where it stands, before an entry that isn't there. Data are no fault.
 #[test]
 fn refuses_what_is_not_built(rt: HostRuntime) -> Result<(), Fail> {
     let call = blob(rt.alloc(), 9, OF_A_CALL)?;
+    let growth = blob(rt.alloc(), 9, OF_GROWTH)?;
     let line = b"refused 63 NotBuilt object=0 section=0 offset=3\n";
     assert!(rt; is_refused(rt.alloc(), &call, line)?);
+    assert!(rt; is_refused(rt.alloc(), &growth, line)?);
+    assert!(rt; is_refused(rt.alloc(), &OF_READ_ONLY_DATA, line)?);
     assert!(rt;
         runs_to(
             rt.alloc(),
@@ -307,13 +313,6 @@ fn refuses_what_is_not_built(rt: HostRuntime) -> Result<(), Fail> {
             Status::Refused,
             b"",
             line
-        )?
-    );
-    assert!(rt;
-        is_refused(
-            rt.alloc(),
-            &OF_READ_ONLY_DATA,
-            b"refused 63 NotBuilt object=0 section=0 offset=0\n"
         )?
     );
     Ok(())
@@ -355,7 +354,7 @@ fn answers_faulty_numbers(rt: HostRuntime) -> Result<(), Fail> {
 
 #[test]
 fn answers_faulty_runs(rt: HostRuntime) -> Result<(), Fail> {
-    let lines: [&[&[u8]]; 14] = [
+    let lines: [&[&[u8]]; 13] = [
         &[b"run"],
         &[b"run", b""],
         &[b"run", b"\xff"],
@@ -368,7 +367,6 @@ fn answers_faulty_runs(rt: HostRuntime) -> Result<(), Fail> {
         &[b"run", b"b", b"--entry"],
         &[b"run", b"--gas", b"3", b"--gas", b"3", b"b"],
         &[b"run", b"--entry", b"0", b"b", b"--entry", b"0"],
-        &[b"run", b"--arg", b"00", b"b"],
         &[b"run", b"b", b"--replies", b"b"],
     ];
     for line in lines {

@@ -2,9 +2,10 @@
 
 ghost use Rattle.std.specs.Prelude.{◌≡◌, Some};
 ghost use Rattle.std.specs.Option.{option_map};
-ghost use Rattle.polkatool_cmd.specs.Commands.{words_in, no_words, with_entry, with_gas, with_option, with_file};
+ghost use Rattle.polkatool_cmd.specs.Commands.{words_in, no_words, with_entry, with_gas, with_argument, with_option, with_file};
 ghost use Rattle.polkatool_cmd.specs.Commands.{run_words, run_of, command_in};
 
+use crate::argument::Argument;
 use crate::commands::{Command, RunCommand};
 use crate::values::{begins_with_dash, file, number, small_number};
 use outside::Bytes;
@@ -20,6 +21,7 @@ const DEFAULT_GAS: u64 = 10_000_000;
 pub(crate) struct RunWords<'a> {
     pub entry: Option<u32>,
     pub gas: Option<u64>,
+    pub argument: Option<Argument<'a>>,
     pub blob: Option<&'a str>,
 }
 
@@ -37,6 +39,7 @@ fn read(words: &[Bytes]) -> Option<RunWords<'_>>
     let mut named = RunWords {
         entry: None,
         gas: None,
+        argument: None,
         blob: None,
     };
     let mut rest = words;
@@ -61,19 +64,22 @@ fn command<'a>(words: &RunWords<'a>) -> Option<Command<'a>>
     Some(Command::Run(RunCommand {
         entry: words.entry.unwrap_or(DEFAULT_ENTRY),
         gas: words.gas.unwrap_or(DEFAULT_GAS),
+        argument: words.argument.unwrap_or(Argument::empty()),
         blob,
     }))
 }
 
 impl<'a> RunWords<'a> {
     /// With an option and its value. None where it is no option of a run, is repeated, or has another value.
-    fn with_option(&self, option: &[u8], value: &[u8]) -> Option<RunWords<'a>>
+    fn with_option(&self, option: &[u8], value: &'a [u8]) -> Option<RunWords<'a>>
         ensures { option_map words_in result ≡ with_option (words_in self.now) option.now value.now }
     {
         if option == b"--entry".as_slice() {
             self.with_entry(value)
         } else if option == b"--gas".as_slice() {
             self.with_gas(value)
+        } else if option == b"--arg".as_slice() {
+            self.with_argument(value)
         } else {
             None
         }
@@ -97,6 +103,16 @@ impl<'a> RunWords<'a> {
         }
         let gas = Some(number(value)?);
         Some(RunWords { gas, ..*self })
+    }
+
+    fn with_argument(&self, value: &'a [u8]) -> Option<RunWords<'a>>
+        ensures { option_map words_in result ≡ with_argument (words_in self.now) value.now }
+    {
+        if self.argument.is_some() {
+            return None;
+        }
+        let argument = Some(Argument::read(value)?);
+        Some(RunWords { argument, ..*self })
     }
 
     fn with_file(&self, word: &'a [u8]) -> Option<RunWords<'a>>

@@ -1,14 +1,10 @@
-use Rattle.std.proofs.Common.{ℕ, sym, ap, ◌∙◌, subst}
+use Rattle.std.proofs.Common.{ℕ, sym, ap, subst}
 use Rattle.outside.specs.Outside.{Rose, AppendsFront}
 use Rattle.polkatool_cmd.specs.Transcript.{transcript, end_line, gas_line}
-use Rattle.polkatool_cmd.specs.Running.{IsZero, end_of}
+use Rattle.polkatool_cmd.specs.Running.{end_of}
 use Rattle.polkatool_cmd.proofs.Answering.{run_of-exit}
 use Rattle.outside.proofs.Fronts.{AppendsFront-after, AppendsFront-longer}
 use Rattle.polkatool_cmd.proofs.run.finish.Goals as goal
-
-pub put_end-requires-clause-zero : goal.put_end-requires-clause-zero
-put_end-requires-clause-zero g c =
-    subst IsZero (sym (ap (λ r. r.machine.state.memory) c.run-exit.ensures.steps ∙ c.memory_stays.ensures c.args.machine.now)) c.requires
 
 pub returns-in-Err : goal.returns-in-Err
 returns-in-Err g c =

@@ -1,18 +1,14 @@
-use Rattle.std.proofs.Common.{◌*◌, ◌++◌, replicate, sym, ap, ◌∙◌, subst}
-use Rattle.std.specs.Prelude.{codes}
+use Rattle.std.proofs.Common.{sym, subst}
 use Rattle.std.specs.Io.KnownBytes.{Appends}
 use Rattle.outside.specs.Outside.{AppendsFront}
 use Rattle.std.proofs.lemmas.Result.{err_from_is_err_and}
-use Rattle.polkatool_cmd.specs.Running.{output_len}
-use Rattle.polkatool_cmd.proofs.Zeros.{end_line-halt, end_line-out_of_gas}
+use Rattle.polkatool_cmd.proofs.Lines.{end_line-halt, end_line-fault, end_line-out_of_gas}
 use Rattle.polkatool_cmd.proofs.run.put_end.Goals as goal
 
 pub returns-in_err-put_halt-in-Halt-clause-err : goal.returns-in_err-put_halt-in-Halt-clause-err
 returns-in_err-put_halt-in-Halt-clause-err g c =
     let p = err_from_is_err_and c.from_residual.result c.from_residual.ensures.1 in
-    let len = c.output_len.ensures ∙ ap output_len c.output_range.ensures in
-    let line = end_line-halt c.args.exit c.args.machine.now.state c.in-Halt.is c.requires.zero ∙ ap (λ n. codes "halt output=" ++ replicate (2 * n) 48 ++ codes "\n") (sym len) in
-    rw p.1 (subst (AppendsFront _ _) (sym line) c.in_err-put_halt-in-Halt.ensures.err)
+    rw p.1 (subst (AppendsFront _ _) (sym (end_line-halt c.args.exit c.args.machine.now.state c.in-Halt.is)) c.in_err-put_halt-in-Halt.ensures.err)
 
 pub returns-in_err-put-in-OutOfGas-clause-err : goal.returns-in_err-put-in-OutOfGas-clause-err
 returns-in_err-put-in-OutOfGas-clause-err g c =
@@ -21,9 +17,7 @@ returns-in_err-put-in-OutOfGas-clause-err g c =
 
 pub returns-in_ok-put_halt-in-Halt-clause-ok : goal.returns-in_ok-put_halt-in-Halt-clause-ok
 returns-in_ok-put_halt-in-Halt-clause-ok g c =
-    let len = c.output_len.ensures ∙ ap output_len c.output_range.ensures in
-    let line = end_line-halt c.args.exit c.args.machine.now.state c.in-Halt.is c.requires.zero ∙ ap (λ n. codes "halt output=" ++ replicate (2 * n) 48 ++ codes "\n") (sym len) in
-    subst (Appends _ _) (sym line) c.in_ok-put_halt-in-Halt.ensures.ok
+    subst (Appends _ _) (sym (end_line-halt c.args.exit c.args.machine.now.state c.in-Halt.is)) c.in_ok-put_halt-in-Halt.ensures.ok
 
 pub returns-in_ok-put-in-OutOfGas-clause-ok : goal.returns-in_ok-put-in-OutOfGas-clause-ok
 returns-in_ok-put-in-OutOfGas-clause-ok g c =
