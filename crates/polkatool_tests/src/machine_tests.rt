@@ -1,8 +1,6 @@
 use crate::fixtures::returning_five;
 use blob_codec::Container;
-use pvm_machine::{
-    Machine, Step, effects_keep_targets, memory_stays, operations_have_forms, steps_are_turns,
-};
+use pvm_machine::{Machine, Step, effects_keep_targets, operations_have_forms, steps_are_turns};
 use pvm_ops::{Form, fetch, form};
 use std::test::*;
 
@@ -11,7 +9,6 @@ fn steps_do_the_instructions_in_turn(rt: HostRuntime) -> Result<(), Fail> {
     steps_are_turns();
     operations_have_forms();
     effects_keep_targets();
-    memory_stays();
     let bytes = returning_five();
     let container = Container::read(&bytes)?;
     let code = container.program().code();
