@@ -132,7 +132,7 @@ pub enum Condition {
 
 impl Binary {
     /// What the operation gives of two words.
-    #[inline]
+    #[inline(always)]
     pub fn apply(self, a: u64, b: u64) -> u64
         ensures { result ≡ binary self a b }
     {
@@ -182,7 +182,7 @@ impl Binary {
 
 impl Unary {
     /// What the operation gives of a word.
-    #[inline]
+    #[inline(always)]
     pub fn apply(self, a: u64) -> u64
         ensures { result ≡ unary self a }
     {
@@ -204,7 +204,7 @@ impl Unary {
 
 impl Condition {
     /// Whether the comparison of two words holds.
-    #[inline]
+    #[inline(always)]
     pub fn holds(self, a: u64, b: u64) -> bool
         ensures { result ≡ holds self a b }
     {
