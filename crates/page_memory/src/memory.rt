@@ -4,19 +4,18 @@ ghost use Rattle.machine_state.specs.Memory.{no_memory};
 ghost use Rattle.machine_state.specs.Output.{page_at};
 ghost use Rattle.page_memory.specs.Access.{byte_of, with_bytes, is_refused};
 ghost use Rattle.page_memory.specs.Answers.{mode_of};
-ghost use Rattle.page_memory.specs.Pages.{turned, with_page, takes};
+ghost use Rattle.page_memory.specs.Pages.{with_page, takes, HasNoLowPage};
 ghost use Rattle.page_memory.specs.Mapping.{with_mode};
 
 use crate::mode::Mode;
-use crate::page::Page;
+use crate::tables::PageTable;
 use std::alloc::Global;
-use std::collections::BTreeMap;
 use std::marker::Model;
 
 /// A memory of 2^32 bytes in pages of 4096. Page numbers are addresses divided by 4096, so below 2^20.
 #[derive(Drop)]
 pub struct Memory {
-    pub(crate) pages: BTreeMap<u32, Page>,
+    pub(crate) pages: PageTable,
     pub(crate) mapped: u32,
     pub(crate) alloc: Global,
 }
@@ -26,25 +25,24 @@ impl Model for Memory {
     ghost use Rattle.std.specs.FinMap as map;
     ghost use Rattle.machine_state.specs.Memory as model;
     ghost use Rattle.machine_state.specs.Codes.{memory_code};
-    ghost use Rattle.page_memory.specs.Pages.{memory_of, HasAddresses};
+    ghost use Rattle.page_memory.specs.Pages.{memory_of, HasNoLowPage};
 
     ghost Value = { model.Memory };
 
     ghost coded = { memory_code };
 
-    ghost view = { λ m. memory_of m.pages.entries };
+    ghost view = { λ m. memory_of m.pages };
 
-    ghost invariant = { λ m. (m.mapped ≡ map.len (memory_of m.pages.entries)) × HasAddresses (memory_of m.pages.entries) };
+    ghost invariant = { λ m. (m.mapped ≡ map.len (memory_of m.pages)) × HasNoLowPage (memory_of m.pages) };
 }
 
 impl Memory {
     /// A memory without a page.
-    #[tactic(auto, unfolding(crate::specs::Pages::memory_of), using(crate::proofs::Views::nothing))]
     pub fn new(alloc: Global) -> Memory
         ensures { result ≡ no_memory }
     {
         Memory {
-            pages: BTreeMap::new(alloc),
+            pages: PageTable::new(alloc),
             mapped: 0,
             alloc,
         }
@@ -58,11 +56,15 @@ impl Memory {
     }
 
     /// The mode of the page with a number. One that isn't in the memory is unmapped, as is each from 2^20 on.
-    #[tactic(auto, using(crate::proofs::Views::viewed_at))]
+    #[tactic(auto, using(crate::proofs::Views::whole))]
     pub fn mode(&self, page: u32) -> Mode
         ensures { result ≡ mode_of self.now page }
     {
-        match self.pages.get(&key_of(page)) {
+        let pages = &self.pages;
+        if page >= 0x10_0000 {
+            return Mode::Unmapped;
+        }
+        match pages.page(page) {
             Some(found) => found.mode(),
             None => Mode::Unmapped,
         }
@@ -79,13 +81,20 @@ impl Memory {
         }
     }
 
+    /// Pages begin at number 16, so none has an address below 2^16. A law: it does nothing.
+    pub fn pages_begin_at_16(&self)
+        ensures { HasNoLowPage self.now }
+    {
+        let _ = &self.pages;
+    }
+
     /// Gives a page another mode. It keeps its bytes.
     pub(crate) fn set_mode(&mut self, page: u32, mode: Mode)
         requires allows { mode ≢ Mode.Unmapped }
         requires mapped { IsSome (map.get self.old page) }
         ensures { self.new ≡ with_page self.old page (with_mode mode (map.get self.old page)) }
     {
-        if let Some(found) = self.pages.get_mut(&key_of(page)) {
+        if let Some(found) = self.pages.page_mut(page) {
             found.set_mode(mode);
         }
     }
@@ -95,7 +104,7 @@ impl Memory {
         ensures { self.new ≡ map.remove self.old page }
     {
         if self.has(page) {
-            self.pages.remove(&key_of(page));
+            self.pages.set(page, None);
             self.mapped -= 1;
         }
     }
@@ -105,19 +114,19 @@ impl Memory {
     pub(crate) fn byte(&self, at: u32) -> u8
         ensures { result ≡ byte_of self.now at }
     {
-        match self.pages.get(&key_of(at / 4096)) {
+        match self.pages.page(at / 4096) {
             Some(page) => page.byte((at % 4096) as usize),
             None => 0,
         }
     }
 
-    /// Stores bytes from an address on, where they lie within one page that may be written, and tells whether they do.
+    /// Stores bytes from an address on, where they are within one page that may be written. Returns whether they are.
     #[inline(always)]
     pub(crate) fn put(&mut self, at: u32, bytes: &[u8]) -> bool
         ensures answer { result ≡ takes (page_at self.old at) (at % 4096) (length bytes.now) }
         ensures memory { self.new ≡ (if result then with_bytes self.old at bytes.now else self.old) }
     {
-        match self.pages.get_mut(&key_of(at / 4096)) {
+        match self.pages.page_mut(at / 4096) {
             Some(page) => page.put((at % 4096) as usize, bytes),
             None => false,
         }
@@ -133,13 +142,4 @@ impl Memory {
             Mode::Writable => false,
         }
     }
-}
-
-/// The key that the page with a number is kept under. It turns the numbers round: a tree goes through the keys of a node
-/// from the least on, and the pages that are used most, the stack's and the argument's, have the greatest numbers.
-#[inline]
-pub(crate) fn key_of(page: u32) -> u32
-    ensures { result ≡ turned page }
-{
-    u32::MAX - page
 }

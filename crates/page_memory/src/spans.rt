@@ -3,7 +3,7 @@ ghost use Rattle.std.specs.Option.{option_copied};
 ghost use Rattle.page_memory.specs.Access.{least_refused, touched};
 ghost use Rattle.page_memory.specs.Ranges.{is_barred, IsLeastBarred, lent};
 
-use crate::memory::{Memory, key_of};
+use crate::memory::Memory;
 
 /// Ranges of bytes.
 impl Memory {
@@ -60,14 +60,14 @@ impl Memory {
         }
     }
 
-    /// The bytes of a range, without a copy, where it lies within one page that may be read. An empty one does always.
+    /// Borrows the bytes of a range, where it is within one page that may be read. An empty range always is.
     pub fn lend(&self, at: u32, len: u32) -> Option<&[u8]>
         ensures { option_copied result ≡ lent self.now at len }
     {
         self.view(at, len)
     }
 
-    /// What `lend` gives, which are the bytes that a load touches and isn't refused.
+    /// What `lend` returns: bytes that a load may touch.
     #[tactic(auto, using(crate::proofs::Views::viewed_at), unfolding(crate::specs::Access::least_refused, crate::specs::Access::touched))]
     pub(crate) fn view(&self, at: u32, len: u32) -> Option<&[u8]>
         ensures lent { option_copied result ≡ lent self.now at len }
@@ -78,7 +78,7 @@ impl Memory {
         if len == 0 {
             return Some(&[]);
         }
-        match self.pages.get(&key_of(at / 4096)) {
+        match self.pages.page(at / 4096) {
             Some(page) => page.lend((at % 4096) as usize, len as usize),
             None => None,
         }
