@@ -9,7 +9,7 @@ mod container;
 mod fault;
 mod fields;
 mod laws;
-mod numbers_out;
+mod naturals_out;
 mod program;
 mod writing;
 

@@ -1,6 +1,6 @@
 use super::*;
 use crate::fields::natural_front;
-use crate::numbers_out::put_natural;
+use crate::naturals_out::put_natural;
 use pvm_ops::Bytes8;
 use std::test::*;
 

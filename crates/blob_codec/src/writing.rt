@@ -3,7 +3,7 @@ ghost use Rattle.std.specs.List.{flat_map};
 ghost use Rattle.numbers.specs.Bytes.{little};
 ghost use Rattle.blob_codec.specs.Grammar.{program_with, program_bytes, IsProgram, spelled_container, HoldsProgram};
 
-use crate::numbers_out::{put_low_bytes, put_natural};
+use crate::naturals_out::{put_low_bytes, put_natural};
 use pvm_ops::Bytes8;
 use std::alloc::{AllocError, Global};
 

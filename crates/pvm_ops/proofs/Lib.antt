@@ -7,5 +7,6 @@ pub mod Table
 pub mod ReadBack
 pub mod Padding
 pub mod MaskWindow
+pub mod Shifts
 pub mod NextMark
 pub mod LastMark

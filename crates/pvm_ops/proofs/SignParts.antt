@@ -1,28 +1,37 @@
 -- The parts that a sign extension is put together from, and eight bytes as two words.
-use Rattle.std.proofs.Common.{◌≡◌, ℕ, zero, suc, ◌+◌, ◌-◌, ◌*◌, ◌/◌, ◌%◌, ◌^◌, ◌<◌, List, arith, refl, ap, ◌∙◌, nat_lt, true, false}
+use Rattle.std.proofs.Common.{◌≡◌, ℕ, zero, suc, ◌+◌, ◌-◌, ◌*◌, ◌/◌, ◌%◌, ◌^◌, ◌<◌, ◌≤◌, List, Bool, arith, ap, ◌∙◌, nat_lt, true, false, inl, inr}
 use Rattle.std.specs.Prelude.{if◌then◌else◌}
-use Rattle.std.proofs.Math.Nat.{pow-suc}
-use Rattle.std.proofs.lemmas.Nat.{pow_pos}
+use Rattle.std.proofs.lemmas.Bool.{cases_lt, lt-ltb, lt-leb}
 use Rattle.numbers.specs.Bytes.{number_of}
 use Rattle.numbers.specs.Words.{sign_extend}
 use Rattle.pvm_ops.specs.Fetch.{bytes_from}
 
--- half a power of two, where half of one is one
-pub half_power : (k : ℕ) → (2 ^ k + 1) / 2 ≡ 2 ^ (k - 1)
-half_power zero = refl
-half_power (suc k) =
-    let double = pow-suc 2 k in
-    let less : suc k - 1 ≡ k = omega arith in
-    let half : (2 ^ suc k + 1) / 2 ≡ 2 ^ k = omega arith in
-    rw (half, less) refl
+chosen_low : (b : Bool) (x y r : ℕ) → b ≡ true → r ≡ x → r ≡ (if b then x else y)
+chosen_low b x y r e h = rw e h
 
--- a number extended by its sign, from its parts
-pub extended_is : (len word power half : ℕ) → power ≡ 2 ^ (8 * len) → half ≡ (power + 1) / 2 → (if nat_lt (word % power) half then word % power else word % power + (18446744073709551615 - (power - 1))) ≡ sign_extend (8 * len) word
-extended_is len word power half e h =
-    let some = pow_pos (8 * len) in
-    let ones : 18446744073709551615 - (power - 1) ≡ 2 ^ 64 - 2 ^ (8 * len) = omega arith in
-    let is : half ≡ 2 ^ (8 * len - 1) = h ∙ ap (λ p. (p + 1) / 2) e ∙ half_power (8 * len) in
-    rw (is, ones, e) refl
+chosen_high : (b : Bool) (x y r : ℕ) → b ≡ false → r ≡ y → r ≡ (if b then x else y)
+chosen_high b x y r e h = rw e h
+
+-- the low bytes of a word, at most four, extended by their sign: half of their power is added, and taken off again
+pub by_half : (len word : ℕ) → len ≤ 4 → ((word + 2 ^ (8 * len) / 2) % 2 ^ (8 * len) + (2 ^ 64 - 2 ^ (8 * len) / 2)) % 2 ^ 64 ≡ sign_extend (8 * len) word
+by_half zero word l = chosen_low (nat_lt (word % 1) 1) (word % 1) (word % 1 + (2 ^ 64 - 1)) _ (lt-ltb (word % 1) 1 (omega arith)) (omega arith)
+by_half (suc zero) word l = elim (cases_lt (word % 256) 128) [
+  | inl low ↦ chosen_low (nat_lt (word % 256) 128) (word % 256) (word % 256 + (2 ^ 64 - 256)) _ (lt-ltb (word % 256) 128 low) (omega arith)
+  | inr high ↦ chosen_high (nat_lt (word % 256) 128) (word % 256) (word % 256 + (2 ^ 64 - 256)) _ (lt-leb (suc (word % 256)) 128 (omega arith)) (omega arith)
+]
+by_half (suc (suc zero)) word l = elim (cases_lt (word % 65536) 32768) [
+  | inl low ↦ chosen_low (nat_lt (word % 65536) 32768) (word % 65536) (word % 65536 + (2 ^ 64 - 65536)) _ (lt-ltb (word % 65536) 32768 low) (omega arith)
+  | inr high ↦ chosen_high (nat_lt (word % 65536) 32768) (word % 65536) (word % 65536 + (2 ^ 64 - 65536)) _ (lt-leb (suc (word % 65536)) 32768 (omega arith)) (omega arith)
+]
+by_half (suc (suc (suc zero))) word l = elim (cases_lt (word % 16777216) 8388608) [
+  | inl low ↦ chosen_low (nat_lt (word % 16777216) 8388608) (word % 16777216) (word % 16777216 + (2 ^ 64 - 16777216)) _ (lt-ltb (word % 16777216) 8388608 low) (omega arith)
+  | inr high ↦ chosen_high (nat_lt (word % 16777216) 8388608) (word % 16777216) (word % 16777216 + (2 ^ 64 - 16777216)) _ (lt-leb (suc (word % 16777216)) 8388608 (omega arith)) (omega arith)
+]
+by_half (suc (suc (suc (suc zero)))) word l = elim (cases_lt (word % 4294967296) 2147483648) [
+  | inl low ↦ chosen_low (nat_lt (word % 4294967296) 2147483648) (word % 4294967296) (word % 4294967296 + (2 ^ 64 - 4294967296)) _ (lt-ltb (word % 4294967296) 2147483648 low) (omega arith)
+  | inr high ↦ chosen_high (nat_lt (word % 4294967296) 2147483648) (word % 4294967296) (word % 4294967296 + (2 ^ 64 - 4294967296)) _ (lt-leb (suc (word % 4294967296)) 2147483648 (omega arith)) (omega arith)
+]
+by_half (suc (suc (suc (suc (suc len))))) word l = absurd (omega arith)
 
 -- eight bytes as two words
 pub two_words : (bytes : List ℕ) (at low high : ℕ) → low ≡ number_of (bytes_from bytes at 4) → high ≡ number_of (bytes_from bytes (at + 4) 4) → low + high * 2 ^ 32 ≡ number_of (bytes_from bytes at 8)

@@ -1,5 +1,5 @@
 -- The instruction at a position (JAM Gray Paper 0.7.0, appendix A.5).
-use Rattle.std.specs.Prelude.{ℕ, zero, suc, ◌+◌, ◌-◌, ◌*◌, ◌/◌, ◌%◌, List, [], ◌∷◌, ◌&&◌, min, if◌then◌else◌, slice_index}
+use Rattle.std.specs.Prelude.{◌≡◌, ◌<◌, ◌≤◌, true, length, ℕ, zero, suc, ◌+◌, ◌-◌, ◌*◌, ◌/◌, ◌%◌, List, [], ◌∷◌, ◌&&◌, min, if◌then◌else◌, slice_index}
 use Rattle.numbers.specs.Bytes.{number_of}
 use Rattle.numbers.specs.Words.{sign_extend}
 use Rattle.pvm_ops.specs.Listing.{Listing, is_marked, skip}
@@ -8,6 +8,7 @@ use Rattle.pvm_ops.specs.declared.forms.Form.{Form}
 use Rattle.pvm_ops.specs.declared.forms.Form.TheVariants.{N, X, RE, XY, O, RX, RXY, RXO, RR, RRX, RRO, RRXY, RRR}
 use Rattle.pvm_ops.specs.declared.instr.Instr.{Instr}
 use Rattle.pvm_ops.specs.declared.instr.Fetched.{Fetched}
+use Rattle.pvm_ops.specs.declared.instr.Head.{Head}
 
 -- so many bytes from a position on, where zeros follow the code
 abbrev pub bytes_from : List ℕ → ℕ → ℕ → List ℕ
@@ -67,3 +68,12 @@ fetch_of code at =
     if is_marked code at && is_known op
     then record { instr = operands code.bytes at op (skip code at) (form_of op); next = at + 1 + skip code at }
     else record { instr = trap; next = at }
+
+-- the head of the instruction at a position, which is marked
+pub record IsHead (code : Listing) (at : ℕ) (head : Head) : Type 0 where
+  pub marked : is_marked code at ≡ true
+  pub inside : at < length code.bytes
+  pub op : head.op ≡ slice_index code.bytes at
+  pub skip : head.skip ≡ skip code at
+  pub few : head.skip ≤ 24
+  pub word : head.word ≡ number_of (bytes_from code.bytes at 8)

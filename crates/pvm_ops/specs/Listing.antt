@@ -1,5 +1,5 @@
 -- Code with its mask, and the walk from one mark to the next (JAM Gray Paper 0.7.0, appendix A.2).
-use Rattle.std.specs.Prelude.{ℕ, zero, suc, ◌+◌, ◌*◌, ◌/◌, ◌%◌, List, [], ◌∷◌, Bool, ◌&&◌, ◌||◌, nat_lt, nat_le, nat_eq, if◌then◌else◌, length, slice_index}
+use Rattle.std.specs.Prelude.{◌≡◌, ◌<◌, ℕ, zero, suc, ◌+◌, ◌*◌, ◌/◌, ◌%◌, List, [], ◌∷◌, Bool, ◌&&◌, ◌||◌, nat_lt, nat_le, nat_eq, if◌then◌else◌, length, slice_index}
 use Rattle.std.specs.Int.{bit_at}
 
 -- the bytes of a code, and its mask, which has a bit for each byte, set where an instruction starts
@@ -18,6 +18,10 @@ is_marked code at = nat_lt at (length code.bytes) && nat_eq (bit_of code.mask at
 -- the operands before the position end there: it is marked, or past the code
 abbrev pub is_stop : Listing → ℕ → Bool
 is_stop code at = nat_le (length code.bytes) at || nat_eq (bit_of code.mask at) 1
+
+-- the n lowest bits of a number are set where operands end, from a position on
+abbrev pub HasMarks : Listing → ℕ → ℕ → ℕ → Type 0
+HasMarks code at marks n = (j : ℕ) → j < n → nat_eq (bit_at marks j) 1 ≡ is_stop code (at + j)
 
 -- how many positions pass from the given one before the first that stops, at most n
 unfoldable pub run_before : (ℕ → Bool) → ℕ → ℕ → ℕ

@@ -2,9 +2,9 @@ ghost use Rattle.std.specs.Prelude.{◌≡◌, ℕ, ◌+◌, ◌-◌, ◌*◌, �
 ghost use Rattle.std.specs.Int.{bit_at};
 ghost use Rattle.numbers.specs.Bytes.{number_of};
 ghost use Rattle.pvm_ops.specs.Fetch.{bytes_from};
-ghost use Rattle.pvm_ops.specs.Listing.{is_marked, skip};
+ghost use Rattle.pvm_ops.specs.Listing.{is_marked, skip, HasMarks};
 
-use crate::windows::{byte, window};
+use crate::windows::{inner_window, inner_word, shifted_word, window, word};
 use std::marker::Model;
 
 /// The most bytes that an instruction takes with its operands, as far as the code is walked: an opcode and 24 more.
@@ -19,17 +19,21 @@ const REACH: u64 = 25;
 pub struct Code<'a> {
     bytes: &'a [u8],
     mask: &'a [u8],
+    /// The position of the last four bytes of the mask, and their bits from there on with ones after the code. With them
+    /// the end of the code is no special case.
+    last: u64,
+    last_marks: u64,
 }
 
 impl<'a> Model for Code<'a> {
-    ghost use Rattle.std.specs.Prelude.{◌≡◌, ◌+◌, ◌/◌, ◌<◌, ◌^◌, length};
-    ghost use Rattle.pvm_ops.specs.Listing.{Listing};
+    ghost use Rattle.std.specs.Prelude.{◌≡◌, ◌+◌, ◌-◌, ◌*◌, ◌/◌, ◌<◌, ◌^◌, length};
+    ghost use Rattle.pvm_ops.specs.Listing.{Listing, HasMarks};
 
     ghost Value = { Listing };
 
     ghost view = { λ c. record { bytes = c.bytes.now; mask = c.mask.now } };
 
-    ghost invariant = { λ c. (length c.mask.now ≡ (length c.bytes.now + 7) / 8) × (length c.bytes.now < 2 ^ 63) };
+    ghost invariant = { λ c. (length c.mask.now ≡ (length c.bytes.now + 7) / 8) × (length c.bytes.now < 2 ^ 63) × (c.last ≡ 8 * (length c.mask.now - 4)) × HasMarks (record { bytes = c.bytes.now; mask = c.mask.now }) c.last c.last_marks 64 };
 }
 
 impl<'a> Code<'a> {
@@ -38,7 +42,14 @@ impl<'a> Code<'a> {
         requires { length mask.now ≡ (length bytes.now + 7) / 8 }
         ensures { result ≡ record { bytes = bytes.now; mask = mask.now } }
     {
-        Code { bytes, mask }
+        let last = 8 * (mask.len() as u64).saturating_sub(4);
+        let last_marks = marks_to_end(bytes, mask, last);
+        Code {
+            bytes,
+            mask,
+            last,
+            last_marks,
+        }
     }
 
     /// How many bytes the code has.
@@ -63,34 +74,58 @@ impl<'a> Code<'a> {
         self.bytes
     }
 
-    /// The byte at a position, 0 past the code.
-    pub(crate) fn byte(&self, at: usize) -> u8
-        ensures { result ≡ slice_index self.now.bytes at }
+    /// How many bytes of operands follow the opcode at a position, at most 24, and the little-endian number of the eight
+    /// bytes from there on. Nothing where the position is not marked.
+    #[inline(always)]
+    pub(crate) fn head(&self, at: u64) -> Option<(u8, u64)>
+        ensures { MatchOption result (is_marked self.now at ≡ false) (λ o. (is_marked self.now at ≡ true) × (at < length self.now.bytes) × (o.0 ≡ skip self.now at) × (o.0 ≤ 24) × (o.1 ≡ number_of (bytes_from self.now.bytes at 8))) }
     {
-        byte(self.bytes, at)
+        let skip = self.skip(at)?;
+        Some((skip, self.word(at as usize)))
     }
 
-    /// The number that the four bytes at a position spell, the lowest first. Zeros follow the code.
-    pub(crate) fn window(&self, at: usize) -> u32
-        requires { at < 2 ^ 63 + 128 }
-        ensures { (n : ℕ) → n ≤ 4 → result % 2 ^ (8 * n) ≡ number_of (bytes_from self.now.bytes at n) }
+    /// How many bytes of operands follow the opcode at a position, at most 24. Nothing where the position is not marked.
+    #[inline(always)]
+    fn skip(&self, at: u64) -> Option<u8>
+        ensures { MatchOption result (is_marked self.now at ≡ false) (λ e. (is_marked self.now at ≡ true) × (at < length self.now.bytes) × (e ≡ skip self.now at) × (e ≤ 24)) }
     {
-        window(self.bytes, at)
+        if at >= self.len() {
+            return None;
+        }
+        let marks = self.marks(at);
+        if marks % 2 == 0 {
+            return None;
+        }
+        Some(first_mark(marks / 2))
     }
 
-    /// How many bytes of operands follow the opcode at a position, at most 24.
-    pub(crate) fn skip(&self, at: u64) -> u8
+    /// The marks from a position of the code on, as the bits of a number: at least 25, with ones after the code.
+    #[inline(always)]
+    fn marks(&self, at: u64) -> u64
         requires { at < length self.now.bytes }
-        ensures value { result ≡ skip self.now at }
-        ensures bound { result ≤ 24 }
+        ensures { HasMarks self.now at result 25 }
     {
-        let len = self.len();
-        prove!(at < len);
-        let next = at + 1;
-        // Past the code all positions stop, and 24 is the most.
-        let limit = (len - next).min(24);
-        let marks = window(self.mask, (next / 8) as usize) >> (next % 8);
-        first_mark(marks, limit as u8)
+        if at < self.last {
+            u64::from(inner_window(self.mask, (at / 8) as usize)) >> (at % 8)
+        } else {
+            self.last_marks >> (at - self.last)
+        }
+    }
+
+    /// The little-endian number of the eight bytes from a position on. Zeros follow the code.
+    #[inline(always)]
+    fn word(&self, at: usize) -> u64
+        requires { at < length self.now.bytes }
+        ensures { result ≡ number_of (bytes_from self.now.bytes at 8) }
+    {
+        let len = self.bytes.len();
+        if len - at >= 8 {
+            return inner_word(self.bytes, at);
+        }
+        if len >= 8 {
+            return shifted_word(self.bytes, len - 8, at);
+        }
+        word(self.bytes, at)
     }
 
     /// The nearest mark before a position of the code. Only the 25 positions before it are looked at, since no
@@ -115,14 +150,24 @@ impl<'a> Code<'a> {
     }
 }
 
-/// The place of the lowest bit that is set, or the limit where none is set below it.
-fn first_mark(marks: u32, limit: u8) -> u8
-    requires { limit ≤ 24 }
-    ensures bound { result ≤ limit }
-    ensures below { (j : ℕ) → j < result → bit_at marks j ≡ 0 }
-    ensures here { result < limit → bit_at marks result ≡ 1 }
+/// The bits of a mask from a position on, which is that of its last four bytes, with ones after the code.
+fn marks_to_end(bytes: &[u8], mask: &[u8], last: u64) -> u64
+    requires mask { length mask.now ≡ (length bytes.now + 7) / 8 }
+    requires last { last ≡ 8 * (length mask.now - 4) }
+    ensures { HasMarks (record { bytes = bytes.now; mask = mask.now }) last result 64 }
 {
-    (marks | 1 << limit).trailing_zeros() as u8
+    let left = bytes.len() as u64 - last;
+    u64::from(window(mask, (last / 8) as usize)) | u64::MAX << left
+}
+
+/// The place of the lowest bit that is set, or 24 where none is set below it.
+#[inline(always)]
+fn first_mark(marks: u64) -> u8
+    ensures bound { result ≤ 24 }
+    ensures below { (j : ℕ) → j < result → bit_at marks j ≡ 0 }
+    ensures here { result < 24 → bit_at marks result ≡ 1 }
+{
+    (marks | 1 << 24).trailing_zeros() as u8
 }
 
 /// How many bits from a place downwards are not set, before the first that is, and 32 where none is.

@@ -1,39 +1,92 @@
-ghost use Rattle.std.specs.Prelude.{◌≡◌, ◌≤◌, ◌<◌, ◌+◌, ◌-◌, ◌^◌, min, IsTrue};
+ghost use Rattle.std.specs.Prelude.{◌≡◌, ◌≤◌, ◌<◌, ◌+◌, ◌-◌, ◌^◌, min, slice_index, false, IsTrue, MatchOption};
 ghost use Rattle.numbers.specs.Bytes.{number_of};
-ghost use Rattle.pvm_ops.specs.Opcodes.{is_known};
-ghost use Rattle.pvm_ops.specs.Fetch.{bytes_from, immediate, fetch_of, operands, trap, low_register, high_register};
+ghost use Rattle.pvm_ops.specs.Opcodes.{is_known, form_of};
+ghost use Rattle.pvm_ops.specs.Listing.{is_marked};
+ghost use Rattle.pvm_ops.specs.Fetch.{IsHead, bytes_from, immediate, fetch_of, operands, trap, low_register, high_register};
 
 use crate::code::Code;
 use crate::forms::Form;
-use crate::instr::{Fetched, Instr};
+use crate::instr::{Fetched, Head, Instr};
 use crate::opcodes::form_if_known;
+use crate::windows::{byte_in, window, window_in, word};
 use crate::words::sign_extended;
 
 /// The instruction at a position, and the position after it.
 ///
 /// Where the position is not marked, is past the code or has an unknown opcode, the instruction is `trap`, and the
 /// position after it is its own.
+#[inline]
 #[tactic(auto, unfolding(crate::specs::Fetch::fetch_of))]
 pub fn fetch(code: &Code<'_>, at: u64) -> Fetched
     ensures value { result ≡ fetch_of code.now at }
     ensures registers { (result.instr.a ≤ 12) × (result.instr.b ≤ 12) × (result.instr.d ≤ 12) }
     ensures known { IsTrue (is_known result.instr.op) }
 {
-    if !code.marked(at) {
-        return missing(at);
-    }
-    let len = code.len();
-    prove!(at < len);
-    let op = code.byte(at as usize);
-    let Some(form) = form_if_known(op) else {
+    let Some(head) = read_head(code, at) else {
         return missing(at);
     };
-    let e = code.skip(at);
-    let instr = operands(code, at as usize, op, e, form);
+    let Some(form) = form_if_known(head.op) else {
+        return missing(at);
+    };
+    fetch_as(code, at, head, form)
+}
+
+/// The head of the instruction at a position, which is there where the position is marked.
+#[inline(always)]
+#[tactic(auto, unfolding(crate::specs::Fetch::fetch_of))]
+pub fn read_head(code: &Code<'_>, at: u64) -> Option<Head>
+    ensures { MatchOption result (fetch_of code.now at ≡ record { instr = trap; next = at }) (λ head. IsHead code.now at head) }
+{
+    let (skip, word) = code.head(at)?;
+    let op = opcode(code.bytes(), at as usize, word);
+    Some(Head { op, skip, word })
+}
+
+/// The instruction with a head that was read at a position, and with the form of its opcode.
+#[inline(always)]
+#[tactic(auto, unfolding(crate::specs::Fetch::fetch_of))]
+pub fn fetch_as(code: &Code<'_>, at: u64, head: Head, form: Form) -> Fetched
+    requires read { IsHead code.now at head }
+    requires known { IsTrue (is_known head.op) }
+    requires form { form ≡ form_of head.op }
+    ensures value { result ≡ fetch_of code.now at }
+    ensures registers { (result.instr.a ≤ 12) × (result.instr.b ≤ 12) × (result.instr.d ≤ 12) }
+    ensures op { result.instr.op ≡ head.op }
+{
+    let instr = operands(
+        code.bytes(),
+        at as usize,
+        head.word,
+        head.op,
+        head.skip,
+        form,
+    );
     Fetched {
         instr,
-        next: at + 1 + u64::from(e),
+        next: at + 1 + u64::from(head.skip),
     }
+}
+
+/// A position with an unknown opcode holds a trap. A law: it does nothing.
+#[inline(always)]
+#[tactic(auto, unfolding(crate::specs::Fetch::fetch_of))]
+pub fn unknown_is_trap(code: &Code<'_>, at: u64, head: Head)
+    requires read { IsHead code.now at head }
+    requires unknown { is_known head.op ≡ false }
+    ensures { fetch_of code.now at ≡ record { instr = trap; next = at } }
+{
+    let _ = code;
+    let _ = at;
+    let _ = head;
+}
+
+/// The opcode at a position, the lowest byte of the word there.
+#[inline(always)]
+fn opcode(bytes: &[u8], at: usize, word: u64) -> u8
+    requires { word ≡ number_of (bytes_from bytes.now at 8) }
+    ensures { result ≡ slice_index bytes.now at }
+{
+    byte_in(bytes, at, word, 0)
 }
 
 /// The trap that stands where there is no instruction.
@@ -62,40 +115,44 @@ fn bare(op: u8) -> Instr
     }
 }
 
-/// The instruction of an opcode by its form, where `e` bytes of operands follow it.
-fn operands(code: &Code<'_>, at: usize, op: u8, e: u8, form: Form) -> Instr
+/// The instruction of an opcode by its form, where `e` bytes of operands follow it. The word is that of the opcode and
+/// the seven bytes behind it.
+#[inline(always)]
+fn operands(bytes: &[u8], at: usize, word: u64, op: u8, e: u8, form: Form) -> Instr
+    requires word { word ≡ number_of (bytes_from bytes.now at 8) }
     requires few { e ≤ 24 }
     requires near { at < 2 ^ 63 }
-    ensures value { result ≡ operands code.now.bytes at op e form }
+    ensures value { result ≡ operands bytes.now at op e form }
     ensures registers { (result.a ≤ 12) × (result.b ≤ 12) × (result.d ≤ 12) }
     ensures same { result.op ≡ op }
 {
     let none = bare(op);
-    let first = code.byte(at + 1);
+    let e = u32::from(e);
+    let first = byte_in(bytes, at, word, 1);
     let low = low_register(first);
     let high = high_register(first);
     match form {
         Form::N => none,
         Form::X | Form::O => Instr {
-            x: last(code, at + 1, e),
+            x: last_in(bytes, at, word, 1, e),
             ..none
         },
         Form::RE => Instr {
             a: low,
-            x: long(code, at + 2),
+            x: long(bytes, at + 2),
             ..none
         },
         Form::XY => {
-            let (x, y) = two(code, at + 2, first % 8, e, 1);
+            let (x, y) = two(bytes, at, word, 2, u32::from(first) % 8, e, 1);
             Instr { x, y, ..none }
         }
         Form::RX => Instr {
             a: low,
-            x: last(code, at + 2, e.saturating_sub(1)),
+            x: last_in(bytes, at, word, 2, e.saturating_sub(1)),
             ..none
         },
         Form::RXY | Form::RXO => {
-            let (x, y) = two(code, at + 2, first / 16 % 8, e, 1);
+            let (x, y) = two(bytes, at, word, 2, u32::from(first) / 16 % 8, e, 1);
             Instr {
                 a: low,
                 x,
@@ -109,7 +166,7 @@ fn operands(code: &Code<'_>, at: usize, op: u8, e: u8, form: Form) -> Instr
             ..none
         },
         Form::RRX | Form::RRO => {
-            let x = last(code, at + 2, e.saturating_sub(1));
+            let x = last_in(bytes, at, word, 2, e.saturating_sub(1));
             Instr {
                 a: low,
                 b: high,
@@ -118,7 +175,15 @@ fn operands(code: &Code<'_>, at: usize, op: u8, e: u8, form: Form) -> Instr
             }
         }
         Form::RRXY => {
-            let (x, y) = two(code, at + 3, code.byte(at + 2) % 8, e, 2);
+            let (x, y) = two(
+                bytes,
+                at,
+                word,
+                3,
+                u32::from(byte_in(bytes, at, word, 2)) % 8,
+                e,
+                2,
+            );
             Instr {
                 a: low,
                 b: high,
@@ -130,60 +195,100 @@ fn operands(code: &Code<'_>, at: usize, op: u8, e: u8, form: Form) -> Instr
         Form::RRR => Instr {
             a: low,
             b: high,
-            d: code.byte(at + 2).min(12),
+            d: whole_register(byte_in(bytes, at, word, 2)),
             ..none
         },
     }
 }
 
+/// The register that a byte names.
+#[inline(always)]
+fn whole_register(byte: u8) -> u8
+    ensures value { result ≡ min 12 byte }
+    ensures bound { result ≤ 12 }
+{
+    u32::from(byte).min(12) as u8
+}
+
 /// The register that the low half of a byte names.
+#[inline(always)]
 fn low_register(byte: u8) -> u8
     ensures value { result ≡ low_register byte }
     ensures bound { result ≤ 12 }
 {
-    (byte % 16).min(12)
+    (u32::from(byte) % 16).min(12) as u8
 }
 
 /// The register that the high half of a byte names.
+#[inline(always)]
 fn high_register(byte: u8) -> u8
     ensures value { result ≡ high_register byte }
     ensures bound { result ≤ 12 }
 {
-    (byte / 16).min(12)
+    (u32::from(byte) / 16).min(12) as u8
 }
 
-/// Two immediates: one of `len` bytes, at most four, and one of what is left of `e` bytes without `before` others.
-fn two(code: &Code<'_>, at: usize, len: u8, e: u8, before: u8) -> (u64, u64)
+/// Two immediates behind `place` bytes: one of `len` bytes, at most four, and one of what is left of `e` bytes without
+/// `before` others.
+#[inline(always)]
+fn two(bytes: &[u8], at: usize, word: u64, place: u8, len: u32, e: u32, before: u32) -> (u64, u64)
+    requires word { word ≡ number_of (bytes_from bytes.now at 8) }
+    requires place { place ≤ 4 }
     requires near { at < 2 ^ 63 + 32 }
     ensures { let lx = min 4 len in
-        result ≡ (immediate code.now.bytes at lx, immediate code.now.bytes (at + lx) (min 4 (e - lx - before))) }
+        result ≡ (immediate bytes.now (at + place) lx, immediate bytes.now (at + place + lx) (min 4 (e - lx - before))) }
 {
     let lx = len.min(4);
     let left = e.saturating_sub(lx).saturating_sub(before);
-    (short(code, at, lx), last(code, at + usize::from(lx), left))
+    let behind = at + usize::from(place) + lx as usize;
+    (
+        short_in(bytes, at, word, place, lx),
+        last(bytes, behind, left),
+    )
+}
+
+/// The immediate of the bytes that are left behind `place` bytes, of which no more than four count.
+#[inline(always)]
+fn last_in(bytes: &[u8], at: usize, word: u64, place: u8, left: u32) -> u64
+    requires word { word ≡ number_of (bytes_from bytes.now at 8) }
+    requires place { place ≤ 4 }
+    ensures { result ≡ immediate bytes.now (at + place) (min 4 left) }
+{
+    short_in(bytes, at, word, place, left.min(4))
+}
+
+/// The immediate of at most four bytes behind `place` bytes, extended by its sign.
+#[inline(always)]
+fn short_in(bytes: &[u8], at: usize, word: u64, place: u8, len: u32) -> u64
+    requires word { word ≡ number_of (bytes_from bytes.now at 8) }
+    requires place { place ≤ 4 }
+    requires few { len ≤ 4 }
+    ensures { result ≡ immediate bytes.now (at + place) len }
+{
+    sign_extended(window_in(bytes, at, word, place), len)
 }
 
 /// The immediate of the bytes that are left, of which no more than four count.
-fn last(code: &Code<'_>, at: usize, left: u8) -> u64
+fn last(bytes: &[u8], at: usize, left: u32) -> u64
     requires near { at < 2 ^ 63 + 64 }
-    ensures { result ≡ immediate code.now.bytes at (min 4 left) }
+    ensures { result ≡ immediate bytes.now at (min 4 left) }
 {
-    short(code, at, left.min(4))
+    short(bytes, at, left.min(4))
 }
 
 /// The immediate of at most four bytes at a position, extended by its sign.
-fn short(code: &Code<'_>, at: usize, len: u8) -> u64
+fn short(bytes: &[u8], at: usize, len: u32) -> u64
     requires few { len ≤ 4 }
     requires near { at < 2 ^ 63 + 64 }
-    ensures { result ≡ immediate code.now.bytes at len }
+    ensures { result ≡ immediate bytes.now at len }
 {
-    sign_extended(code.window(at), len)
+    sign_extended(window(bytes, at), len)
 }
 
 /// The immediate of eight bytes at a position.
-fn long(code: &Code<'_>, at: usize) -> u64
+fn long(bytes: &[u8], at: usize) -> u64
     requires { at < 2 ^ 63 + 64 }
-    ensures { result ≡ immediate code.now.bytes at 8 }
+    ensures { result ≡ immediate bytes.now at 8 }
 {
-    u64::from(code.window(at)) + u64::from(code.window(at + 4)) * 0x1_0000_0000
+    word(bytes, at)
 }

@@ -1,8 +1,8 @@
-/// How the operands of an opcode are laid out behind it.
+/// How the operands of an opcode are laid out after it.
 ///
-/// A register takes four bits of a byte, an immediate or an offset up to four bytes, little-endian and sign-extended.
-/// The letters of a form name its fields in order: R a register, X and Y immediates, O an offset, E an immediate of
-/// eight bytes.
+/// A register takes four bits of a byte, and the last of three registers a whole byte. An immediate or an offset takes up
+/// to four bytes, little-endian and sign-extended. The letters of a form name its fields: R a register, X and Y
+/// immediates, O an offset, E an immediate of eight bytes.
 #[derive(Clone, Copy, Debug, PartialEq, Eq)]
 pub enum Form {
     /// No operands.

@@ -19,3 +19,12 @@ pub struct Fetched {
     pub instr: Instr,
     pub next: u64,
 }
+
+/// The head of an instruction, which is read before its operands: the opcode, how many bytes of operands follow it, and
+/// the little-endian number of eight bytes, the opcode first.
+#[derive(Clone, Copy, Debug, PartialEq, Eq)]
+pub struct Head {
+    pub op: u8,
+    pub skip: u8,
+    pub word: u64,
+}

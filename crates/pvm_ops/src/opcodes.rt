@@ -24,21 +24,20 @@ pub fn form(op: u8) -> Form
 pub(crate) fn form_if_known(op: u8) -> Option<Form>
     ensures { MatchOption result (is_known op ≡ false) (λ form. (is_known op ≡ true) × (form ≡ form_of op)) }
 {
-    // The opcodes that programs have most come first.
     match op {
-        190..=230 => Some(Form::RRR),
-        120..=161 => Some(Form::RRX),
-        80..=90 => Some(Form::RXO),
-        170..=175 => Some(Form::RRO),
-        100..=111 => Some(Form::RR),
-        50..=62 => Some(Form::RX),
-        40 => Some(Form::O),
-        180 => Some(Form::RRXY),
         0..=1 => Some(Form::N),
         10 => Some(Form::X),
         20 => Some(Form::RE),
         30..=33 => Some(Form::XY),
+        40 => Some(Form::O),
+        50..=62 => Some(Form::RX),
         70..=73 => Some(Form::RXY),
+        80..=90 => Some(Form::RXO),
+        100..=111 => Some(Form::RR),
+        120..=161 => Some(Form::RRX),
+        170..=175 => Some(Form::RRO),
+        180 => Some(Form::RRXY),
+        190..=230 => Some(Form::RRR),
         _ => None,
     }
 }

@@ -2,18 +2,19 @@ ghost use Rattle.std.specs.Prelude.{◌≡◌, ◌+◌, ◌*◌, ◌<◌, ◌≤
 ghost use Rattle.numbers.specs.Words.{sign_extend};
 
 /// The low bytes of a word, at most four, extended by their sign.
-#[inline]
-pub(crate) fn sign_extended(word: u32, len: u8) -> u64
+#[inline(always)]
+pub(crate) fn sign_extended(word: u32, len: u32) -> u64
     requires { len ≤ 4 }
     ensures { result ≡ sign_extend (8 * len) word }
 {
     let power = power_of_256(len);
-    let half = (power + 1) / 2;
-    extended(u64::from(word) % power, half, u64::MAX - (power - 1))
+    let half = power / 2;
+    ((u64::from(word) + half) % power).wrapping_sub(half)
 }
 
 /// 256 to the power of a length.
-fn power_of_256(len: u8) -> u64
+#[inline(always)]
+fn power_of_256(len: u32) -> u64
     requires { len ≤ 4 }
     ensures value { result ≡ 2 ^ (8 * len) }
     ensures bound { (1 ≤ result) × (result ≤ 2 ^ 32) }

@@ -7,4 +7,4 @@ pub returns : goal.returns
 returns c =
     c.sign_extended.ensures
     ∙ sym (sign_extend-mod (8 * c.args.len) c.window.result)
-    ∙ ap (sign_extend (8 * c.args.len)) (c.window.ensures c.args.len c.requires.few)
+    ∙ ap (sign_extend (8 * c.args.len)) (c.window.ensures.low c.args.len c.requires.few)
