@@ -13,7 +13,6 @@ use Rattle.page_memory.specs.declared.mode.Mode.TheVariants as mode
 use Rattle.page_memory.specs.Access.{copy_in, stored}
 use Rattle.page_memory.specs.Mapping.{HasPages, ChangesPages, with_mode}
 use Rattle.page_memory.specs.Laws.{PagesAllow, PagesFill, PagesProtect}
-use Rattle.pvm_machine.specs.Machine.{HasNoLowPage}
 
 -- the page at a number behind one more page
 get_more : (memory : Memory) (first : ℕ) (page : Page) (number : ℕ) → map.get (map.insert memory first page) number ≡ cond (nat_eq number first) (Some page) (map.get memory number)
@@ -45,9 +44,6 @@ get_below (suc count) first mode bytes memory number below =
 
 pub has_filled : (count first : ℕ) (mode : Mode) (bytes : List ℕ) (memory new : Memory) → new ≡ with_pages count first mode bytes memory → HasPages first (first + count) new
 has_filled count first mode bytes memory new is = subst (HasPages first (first + count)) (sym is) (has_pages count first mode bytes memory)
-
-low_stays : (count first : ℕ) (mode : Mode) (bytes : List ℕ) (memory : Memory) → 16 ≤ first → HasNoLowPage memory → HasNoLowPage (with_pages count first mode bytes memory)
-low_stays count first mode bytes memory above no_low number low = get_below count first mode bytes memory number (omega arith) ∙ no_low number low
 
 pub on_ok : {T E P : Type 0} (r : Result T E) → is_err r ≡ false → OnOk r P → P
 on_ok (Ok value) e h = h
@@ -85,16 +81,3 @@ module _ (image : Image) (argument : List ℕ) where
   unfolding start_memory
   start_is empty first second third last argument_pages stack_pages writable_pages read_only_pages writable_page zero_pages stack read_only writable d1 d2 d3 d4 e1 e2 e3 e4 e5 none is1 is2 is3 is4 =
       rw (is4, is3, is2, is1, none, e1, e2, e3, e4, e5, d1, d2, d3, d4) refl
-
-  -- it has no page below 2^16
-  pub start_low : image.stack < 2 ^ 24 → HasNoLowPage (start_memory image argument)
-  unfolding start_memory
-  start_low few =
-      let argument_pages : Memory = with_pages (pages_of (length argument)) (argument_start / page_size) Readable argument no_memory in
-      let stack_pages : Memory = with_pages (pages_of image.stack) (stack_end / page_size - pages_of image.stack) Writable [] argument_pages in
-      let writable_pages : Memory = with_pages (pages_of (length image.writable) + image.zero_pages) (writable_start image / page_size) Writable image.writable stack_pages in
-      low_stays (pages_of (length image.read_only)) 16 Readable image.read_only writable_pages (omega arith)
-      (low_stays (pages_of (length image.writable) + image.zero_pages) (writable_start image / page_size) Writable image.writable stack_pages (omega arith)
-      (low_stays (pages_of image.stack) (stack_end / page_size - pages_of image.stack) Writable [] argument_pages (omega arith)
-      (low_stays (pages_of (length argument)) (argument_start / page_size) Readable argument no_memory (omega arith)
-      (λ number _. map.get-empty {X = Page} nat_cmp number))))

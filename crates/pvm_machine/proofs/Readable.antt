@@ -11,7 +11,6 @@ use Rattle.machine_state.specs.Output.{is_readable, all_from, range_readable, ou
 use Rattle.page_memory.specs.Access.{mode_allows, page_allows, least_refused, with_bytes, stored, store}
 use Rattle.page_memory.proofs.Parts.{modes_stay}
 use Rattle.page_memory.specs.Ranges.{is_barred, IsLeastBarred}
-use Rattle.pvm_machine.specs.Machine.{HasNoLowPage}
 
 readable_any : (mode : Mode) → mode_allows false mode ≡ true
 readable_any Readable = refl
@@ -84,17 +83,3 @@ module _ (registers : List ℕ) (memory : Memory) (o : Option ℕ) (some : 0 < s
 none_of : (o : Option Page) → is_some o ≡ false → o ≡ None
 none_of None e = refl
 none_of (Some page) e = cc
-
--- bytes that are stored bring no page
-none_stays : (memory : Memory) (at number : ℕ) (bytes : List ℕ) → map.get memory number ≡ None → map.get (with_bytes memory at bytes) number ≡ None
-none_stays memory at number bytes none =
-    let here : 4096 * number / 4096 ≡ number = omega arith in
-    let same : page_allows false (map.get (with_bytes memory at bytes) number) ≡ page_allows false (map.get memory number) = rw here at (modes_stay bytes at (4096 * number) memory false) in
-    none_of _ (sym (allows_is (map.get (with_bytes memory at bytes) number)) ∙ same ∙ ap (page_allows false) none)
-
-stored_low : (memory : Memory) (at : ℕ) (bytes : List ℕ) (o : Option ℕ) → HasNoLowPage memory → HasNoLowPage (stored memory at bytes o)
-stored_low memory at bytes (Some least) no_low number low = no_low number low
-stored_low memory at bytes None no_low number low = none_stays memory at number bytes (no_low number low)
-
-pub store_low : (memory new : Memory) (at len value : ℕ) → new ≡ store memory at len value → HasNoLowPage memory → HasNoLowPage new
-store_low memory new at len value is no_low = subst HasNoLowPage (sym is) (stored_low memory at (little len value) (least_refused memory true at len) no_low)

@@ -4,6 +4,7 @@ use Rattle.runs.specs.Turn.{Goes, Stops}
 use Rattle.runs.specs.Runs.{Paid, paid, pay_run}
 use Rattle.runs.specs.Machine.{Outcome, Next, Jump, Call, Ends, move}
 use Rattle.runs.specs.Laid.{Fetched}
+use Rattle.runs.specs.World.{beside}
 use Rattle.runs.proofs.Fuel.{comes_first, comes_quiet, comes_to_end}
 use Rattle.machine_state.specs.Memory.{Memory}
 use Rattle.machine_state.specs.State.{State}
@@ -76,13 +77,13 @@ module _ (k : ℕ) (rest : (m : Machine) → m.gas ≡ k → Runs m (all_steps m
   gone_to at s = record { table = m.table; code = m.code; counter = at; state = s; gas = k }
 
   -- a quiet step, and then the rest
-  goes : (at : ℕ) (s : State) → machine_step no_host m.table m.code (standing m) ≡ Goes [] 0 0 (record { at = at; of = s }) → stepped m ≡ gone (record m { gas = k }) at s answer.Next → Runs m (all_steps m)
+  goes : (at : ℕ) (s : State) → machine_step no_host m.table m.code (standing m tt) ≡ Goes [] 0 0 (record { at = at; of = record { state = s; held = tt } }) → stepped m ≡ gone (record m { gas = k }) at s answer.Next → Runs m (all_steps m)
   goes at s turn is =
       let n : Machine = gone_to at s in
       let on : all_steps m ≡ all_steps n = steps_on m n (sym is) (omega arith) in
       let later : Runs n (all_steps n) = rest n refl in
-      let first : pay_run (machine_step no_host m.table m.code) (suc k) (standing m) ≡ paid [] 1 (run_of n) = comes_quiet (machine_step no_host m.table m.code) (suc k) (standing m) 0 k (standing m) (standing n) (comes_first (machine_step no_host m.table m.code) (suc k) (standing m)) turn in
-      let whole : run_of m ≡ paid [] 1 (run_of n) = ap (λ (g : ℕ). pay_run (machine_step no_host m.table m.code) g (standing m)) gas ∙ first in
+      let first : pay_run (machine_step no_host m.table m.code) (suc k) (standing m tt) ≡ paid [] 1 (run_of n) = comes_quiet (machine_step no_host m.table m.code) (suc k) (standing m tt) 0 k (standing m tt) (standing n tt) (comes_first (machine_step no_host m.table m.code) (suc k) (standing m tt)) turn in
+      let whole : run_of m ≡ paid [] 1 (run_of n) = ap (λ (g : ℕ). pay_run (machine_step no_host m.table m.code) g (standing m tt)) gas ∙ first in
       let less : (all_steps n).machine.gas ≤ m.gas = omega (arith, later.less) in
       rw on (record { run = one_more m n (all_steps n).machine (all_steps n).answer whole (omega arith) later.less later.run; less = less })
 
@@ -91,18 +92,18 @@ module _ (k : ℕ) (rest : (m : Machine) → m.gas ≡ k → Runs m (all_steps m
   ends_so end = record { events = []; end = Some end; left = k; begun = m.gas - k }
 
   -- a step that ends the run
-  stops : (events : List Event) (end : End) → machine_step no_host m.table m.code (standing m) ≡ Stops events end → run_of m ≡ record { events = events; end = Some end; left = k; begun = m.gas - k }
+  stops : (events : List Event) (end : End) → machine_step no_host m.table m.code (standing m tt) ≡ Stops events end → run_of m ≡ record { events = events; end = Some end; left = k; begun = m.gas - k }
   stops events end turn =
-      let last = comes_to_end (machine_step no_host m.table m.code) (suc k) (standing m) 0 k (standing m) events end (comes_first (machine_step no_host m.table m.code) (suc k) (standing m)) turn in
+      let last = comes_to_end (machine_step no_host m.table m.code) (suc k) (standing m tt) 0 k (standing m tt) events end (comes_first (machine_step no_host m.table m.code) (suc k) (standing m tt)) turn in
       let one : 0 + 1 ≡ m.gas - k = omega arith in
-      ap (λ (g : ℕ). pay_run (machine_step no_host m.table m.code) g (standing m)) gas ∙ last ∙ ap (λ (n : ℕ). record { events = events; end = Some end; left = k; begun = n }) one
+      ap (λ (g : ℕ). pay_run (machine_step no_host m.table m.code) g (standing m tt)) gas ∙ last ∙ ap (λ (n : ℕ). record { events = events; end = Some end; left = k; begun = n }) one
 
   -- the run has no more steps
   ends : (next : Machine) (e : Exit) → next.gas ≡ k → stepped m ≡ stayed next (last_answer e) → IsRun m next (last_answer e) → Runs m (all_steps m)
   ends next e left is ran = rw (← steps_end m next e (sym is)) (record { run = ran; less = omega arith })
 
   -- the instruction comes out so
-  comes : (next : ℕ) (x : Outcome ℕ State End) → IsDone m.state x → machine_step no_host m.table m.code (standing m) ≡ move (rules no_host) (λ p. p) next x → stepped m ≡ came_out (record m { gas = k }) next x → Runs m (all_steps m)
+  comes : (next : ℕ) (x : Outcome ℕ State End) → IsDone m.state x → machine_step no_host m.table m.code (standing m tt) ≡ move (rules no_host) (λ p. p) next (beside tt x) → stepped m ≡ came_out (record m { gas = k }) next x → Runs m (all_steps m)
   comes next (Next s) done turn is = goes next s turn is
   comes next (Jump target s) done turn is = goes target s turn is
   comes next (Call number s) done turn is = ends (gone_to next s) (exit.Host number) refl is (stops _ _ turn)
@@ -115,7 +116,7 @@ module _ (k : ℕ) (rest : (m : Machine) → m.gas ≡ k → Runs m (all_steps m
   -- what stands at the counter is done
   fetches : (o : Option (Fetched Standing ℕ)) → instr_at m.code m.counter ≡ o → Runs m (all_steps m)
   fetches None none = ends (record m { gas = k }) exit.Panic refl (begins m k gas ∙ rw none refl) (stops _ _ (rw none refl))
-  fetches (Some f) some = comes f.next _ (is_done no_host m.table m.code f.instr m.state) (rw some refl) (begins m k gas ∙ rw some refl)
+  fetches (Some f) some = comes f.next _ (is_done m.table m.code f.instr m.state) (rw some refl) (begins m k gas ∙ rw some refl)
 
   pub runs_more : Runs m (all_steps m)
   runs_more = fetches _ refl

@@ -3,6 +3,7 @@ use Rattle.std.specs.Prelude.{◌≡◌, ℕ, ◌<◌, List, None, refl}
 use Rattle.std.specs.FinMap as map
 use Rattle.std.specs.Coded.{Coded, code_by, coded×, coded_ℕ, coded_list}
 use Rattle.runs.specs.Machine.{At}
+use Rattle.runs.specs.World.{World}
 use Rattle.machine_state.specs.Memory.{Memory}
 use Rattle.machine_state.specs.State.{State}
 use Rattle.machine_state.specs.Codes.{state_code}
@@ -16,13 +17,9 @@ pub record Machine : Type 0 where
   pub state : State
   pub gas : ℕ
 
--- the state where the machine stands, as its runs are told
-abbrev pub standing : Machine → At ℕ State
-standing m = record { at = m.counter; of = m.state }
-
--- no page holds an address below 2^16
-abbrev pub HasNoLowPage : Memory → Type 0
-HasNoLowPage memory = (number : ℕ) → number < 16 → map.get memory number ≡ None
+-- the world where the machine stands, as its runs are told: its state, and what its host holds
+abbrev pub standing : {Held : Type 0} → Machine → Held → At ℕ (World State Held)
+standing m held = record { at = m.counter; of = record { state = m.state; held = held } }
 
 -- a machine is stored as the tuple of its fields
 abbrev pub listing_code : Coded Listing

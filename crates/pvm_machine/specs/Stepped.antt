@@ -3,7 +3,7 @@ use Rattle.std.specs.Prelude.{◌≡◌, ℕ, zero, suc, ◌+◌, ◌-◌, ◌==
 use Rattle.runs.specs.Machine.{Outcome, Next, Jump, Call, Ends}
 use Rattle.runs.specs.Laid.{Fetched}
 use Rattle.machine_state.specs.State.{State}
-use Rattle.machine_state.specs.Ends.{End, Halt, Panic, Fault, Unanswered, BadReply, no_host}
+use Rattle.machine_state.specs.Ends.{End, Halt, Panic, Fault, Unanswered, BadReply}
 use Rattle.pvm_machine.specs.Machine.{Machine}
 use Rattle.pvm_machine.specs.Step.{Standing, does_at, instr_at}
 use Rattle.pvm_machine.specs.declared.answers.Step.{Step}
@@ -41,7 +41,7 @@ came_out m next (Ends end) = ended m end
 -- the instruction that stands at the counter is done, and where none stands the machine panics as at a trap
 abbrev pub begun : Machine → Option (Fetched Standing ℕ) → Stepped
 begun m None = stayed m answer.Panic
-begun m (Some f) = came_out m f.next (does_at no_host m.table m.code f.instr m.state)
+begun m (Some f) = came_out m f.next (does_at m.table m.code f.instr m.state)
 
 -- An instruction is begun only with gas above 0, and costs one, whatever it comes to; with none left nothing changes.
 -- How the host would answer does not matter: the step ends where the host is called.

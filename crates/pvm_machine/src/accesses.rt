@@ -5,7 +5,6 @@ ghost use Rattle.page_memory.specs.Access as access;
 ghost use Rattle.page_memory.specs.Answers.{told};
 ghost use Rattle.page_memory.specs.Outcomes.{widened, stores};
 ghost use Rattle.pvm_machine.specs.Effect.{bytes_of, has_sign};
-ghost use Rattle.pvm_machine.specs.Machine.{HasNoLowPage};
 ghost use Rattle.pvm_machine.specs.Outcomes.{outcome_of, refused_as, outcome_by, registers_by, word_by, SameAfter};
 
 use crate::instructions::{Outcome, Registers, put};
@@ -47,7 +46,6 @@ pub(crate) fn put_loaded(registers: &mut Registers, at: u8, loaded: Result<u64, 
 pub(crate) fn store(memory: &mut Memory, address: u64, width: Width, value: u64) -> Outcome
     ensures does { (s : State) → stores (bytes_of width) address value (with_memory s memory.old) ≡ outcome_of result (with_memory s memory.new) }
     ensures kept { SameAfter result memory.old memory.new }
-    ensures low { HasNoLowPage memory.old → HasNoLowPage memory.new }
 {
     match write(memory, low_32(address), width, value) {
         Ok(()) => Outcome::Next,

@@ -1,14 +1,14 @@
-ghost use Rattle.std.specs.Prelude.{◌≡◌, ◌≤◌, ◌%◌, ◌^◌, ◌+◌, IsTrue, slice_set};
+ghost use Rattle.std.specs.Prelude.{◌≡◌, ◌≤◌, ◌<◌, ◌%◌, ◌^◌, ◌+◌, false, IsTrue, slice_set};
 ghost use Rattle.runs.specs.Machine.{Jump};
 ghost use Rattle.runs.specs.Numbers.{named, jump_by};
 ghost use Rattle.machine_state.specs.State.{State};
-ghost use Rattle.machine_state.specs.Ends.{no_host, rules};
-ghost use Rattle.pvm_ops.specs.Opcodes.{is_known};
+ghost use Rattle.machine_state.specs.Ends.{halt, panic};
+ghost use Rattle.pvm_ops.specs.Opcodes.{is_known, form_of};
+ghost use Rattle.pvm_ops.specs.Fetch.{IsHead, fetch_of, trap};
 ghost use Rattle.blob_check.specs.Starts.{is_start};
 ghost use Rattle.pvm_machine.specs.Effect.{branches, chosen};
-ghost use Rattle.pvm_machine.specs.Step.{land, does_at};
-ghost use Rattle.pvm_machine.specs.Machine.{HasNoLowPage};
-ghost use Rattle.pvm_machine.specs.Outcomes.{outcome_of, put_as, with_parts, SameAfter};
+ghost use Rattle.pvm_machine.specs.Step.{land};
+ghost use Rattle.pvm_machine.specs.Outcomes.{outcome_of, put_as, Does, SameAfter};
 
 use crate::accesses::{load, put_loaded, store};
 use crate::operation::{Operation, decode};
@@ -16,7 +16,7 @@ use arithmetic::Condition;
 use blob_check::is_start;
 use blob_codec::Program;
 use page_memory::Memory;
-use pvm_ops::{Code, Instr};
+use pvm_ops::{Code, Form, Head, Instr, fetch_as, read_head, unknown_is_trap};
 
 /// The registers of a machine.
 pub(crate) type Registers = [u64; 13];
@@ -82,7 +82,7 @@ fn named(program: &Program<'_>, number: u64) -> Option<u64>
 
 /// A jump by a number of 32 bits: it halts, or goes to the position that the jump table has for the number.
 fn go_by(code: &Code<'_>, program: &Program<'_>, number: u64) -> Outcome
-    ensures { (s : State) → land (is_start code.now) (jump_by (rules no_host) program.now.table number s) ≡ outcome_of result s }
+    ensures { (s : State) → land (is_start code.now) (jump_by halt panic program.now.table number s) ≡ outcome_of result s }
 {
     if number == 0xffff_0000 {
         return Outcome::Halt;
@@ -123,7 +123,8 @@ fn put_as(outcome: Outcome, registers: &mut Registers, at: u8, value: u64) -> Ou
     outcome
 }
 
-/// Does the instruction that stands at a position, as far as registers and memory go.
+/// Does an instruction at a position, as far as registers and memory go.
+#[inline(always)]
 #[tactic(auto, unfolding(crate::specs::Effect::effect))]
 pub(crate) fn act(
     code: &Code<'_>,
@@ -135,10 +136,9 @@ pub(crate) fn act(
 ) -> Outcome
     requires registers { (instr.a ≤ 12) × (instr.b ≤ 12) × (instr.d ≤ 12) }
     requires known { IsTrue (is_known instr.op) }
-    ensures does { (s : State) → does_at no_host program.now.table code.now (record { instr = instr; at = at }) (with_parts s registers.old memory.old) ≡ outcome_of result (with_parts s registers.new memory.new) }
+    ensures does { Does program.now.table code.now at instr registers.old memory.old result registers.new memory.new }
     ensures registers { SameAfter result registers.old registers.new }
     ensures memory { SameAfter result memory.old memory.new }
-    ensures low { HasNoLowPage memory.old → HasNoLowPage memory.new }
 {
     let a = registers[instr.a as usize];
     let b = registers[instr.b as usize];
@@ -182,5 +182,192 @@ pub(crate) fn act(
             put(registers, instr.d, chosen(condition, b, a, d))
         }
         Operation::Trap | Operation::Ecalli | Operation::Sbrk => Outcome::Panic,
+    }
+}
+
+/// Does the instruction with a head that was read at a position, whose opcode has the given form. Returns the position
+/// after it too.
+// With the form known, the compiler keeps the arms of that form alone.
+#[inline(always)]
+fn act_as(
+    code: &Code<'_>,
+    program: &Program<'_>,
+    at: u64,
+    head: Head,
+    form: Form,
+    registers: &mut Registers,
+    memory: &mut Memory,
+) -> (Outcome, u64)
+    requires read { IsHead code.now at head }
+    requires known { IsTrue (is_known head.op) }
+    requires form { form ≡ form_of head.op }
+    ensures next { result.1 ≡ (fetch_of code.now at).next }
+    ensures does { Does program.now.table code.now at (fetch_of code.now at).instr registers.old memory.old result.0 registers.new memory.new }
+    ensures registers { SameAfter result.0 registers.old registers.new }
+    ensures memory { SameAfter result.0 memory.old memory.new }
+{
+    let fetched = fetch_as(code, at, head, form);
+    (
+        act(code, program, at, fetched.instr, registers, memory),
+        fetched.next,
+    )
+}
+
+/// Does the trap at a position without an instruction.
+#[inline(always)]
+#[tactic(auto, unfolding(crate::specs::Effect::effect, crate::specs::Operations::operation_of))]
+fn act_trap(
+    code: &Code<'_>,
+    program: &Program<'_>,
+    at: u64,
+    registers: &mut Registers,
+    memory: &mut Memory,
+) -> (Outcome, u64)
+    requires { fetch_of code.now at ≡ record { instr = trap; next = at } }
+    ensures next { result.1 ≡ (fetch_of code.now at).next }
+    ensures does { Does program.now.table code.now at (fetch_of code.now at).instr registers.old memory.old result.0 registers.new memory.new }
+    ensures registers { SameAfter result.0 registers.old registers.new }
+    ensures memory { SameAfter result.0 memory.old memory.new }
+{
+    let _ = code;
+    let _ = program;
+    let _ = registers;
+    let _ = memory;
+    (Outcome::Panic, at)
+}
+
+/// Does the trap at a position with an unknown opcode.
+#[inline(always)]
+fn act_unknown(
+    code: &Code<'_>,
+    program: &Program<'_>,
+    at: u64,
+    head: Head,
+    registers: &mut Registers,
+    memory: &mut Memory,
+) -> (Outcome, u64)
+    requires read { IsHead code.now at head }
+    requires unknown { is_known head.op ≡ false }
+    ensures next { result.1 ≡ (fetch_of code.now at).next }
+    ensures does { Does program.now.table code.now at (fetch_of code.now at).instr registers.old memory.old result.0 registers.new memory.new }
+    ensures registers { SameAfter result.0 registers.old registers.new }
+    ensures memory { SameAfter result.0 memory.old memory.new }
+{
+    unknown_is_trap(code, at, head);
+    act_trap(code, program, at, registers, memory)
+}
+
+/// Does the instruction at a position, and returns the position after it too.
+// The forms that programs have most come first.
+#[inline(always)]
+#[tactic(auto, unfolding(pvm_ops::specs::Opcodes::is_known, pvm_ops::specs::Opcodes::form_of))]
+pub(crate) fn act_at(
+    code: &Code<'_>,
+    program: &Program<'_>,
+    at: u64,
+    registers: &mut Registers,
+    memory: &mut Memory,
+) -> (Outcome, u64)
+    ensures next { result.1 ≡ (fetch_of code.now at).next }
+    ensures does { Does program.now.table code.now at (fetch_of code.now at).instr registers.old memory.old result.0 registers.new memory.new }
+    ensures registers { SameAfter result.0 registers.old registers.new }
+    ensures memory { SameAfter result.0 memory.old memory.new }
+{
+    let Some(head) = read_head(code, at) else {
+        return act_trap(code, program, at, registers, memory);
+    };
+    let op = head.op;
+    if op >= 190 {
+        return if op <= 230 {
+            act_as(code, program, at, head, Form::RRR, registers, memory)
+        } else {
+            act_unknown(code, program, at, head, registers, memory)
+        };
+    }
+    if op >= 120 {
+        return if op <= 161 {
+            act_as(code, program, at, head, Form::RRX, registers, memory)
+        } else {
+            act_from_162(code, program, at, head, registers, memory)
+        };
+    }
+    if op >= 100 {
+        return if op <= 111 {
+            act_as(code, program, at, head, Form::RR, registers, memory)
+        } else {
+            act_unknown(code, program, at, head, registers, memory)
+        };
+    }
+    if op >= 80 {
+        return if op <= 90 {
+            act_as(code, program, at, head, Form::RXO, registers, memory)
+        } else {
+            act_unknown(code, program, at, head, registers, memory)
+        };
+    }
+    act_below_80(code, program, at, head, registers, memory)
+}
+
+/// The same with an opcode below those of the form RXO.
+#[inline(always)]
+#[tactic(auto, unfolding(pvm_ops::specs::Opcodes::is_known, pvm_ops::specs::Opcodes::form_of))]
+fn act_below_80(
+    code: &Code<'_>,
+    program: &Program<'_>,
+    at: u64,
+    head: Head,
+    registers: &mut Registers,
+    memory: &mut Memory,
+) -> (Outcome, u64)
+    requires read { IsHead code.now at head }
+    requires high { head.op < 80 }
+    ensures next { result.1 ≡ (fetch_of code.now at).next }
+    ensures does { Does program.now.table code.now at (fetch_of code.now at).instr registers.old memory.old result.0 registers.new memory.new }
+    ensures registers { SameAfter result.0 registers.old registers.new }
+    ensures memory { SameAfter result.0 memory.old memory.new }
+{
+    let op = head.op;
+    if op >= 50 {
+        return if op <= 62 {
+            act_as(code, program, at, head, Form::RX, registers, memory)
+        } else if op >= 70 && op <= 73 {
+            act_as(code, program, at, head, Form::RXY, registers, memory)
+        } else {
+            act_unknown(code, program, at, head, registers, memory)
+        };
+    }
+    match op {
+        40 => act_as(code, program, at, head, Form::O, registers, memory),
+        30..=33 => act_as(code, program, at, head, Form::XY, registers, memory),
+        10 => act_as(code, program, at, head, Form::X, registers, memory),
+        20 => act_as(code, program, at, head, Form::RE, registers, memory),
+        0..=1 => act_as(code, program, at, head, Form::N, registers, memory),
+        _ => act_unknown(code, program, at, head, registers, memory),
+    }
+}
+
+/// The same with an opcode between those of the forms RRX and RRR.
+#[inline(always)]
+#[tactic(auto, unfolding(pvm_ops::specs::Opcodes::is_known, pvm_ops::specs::Opcodes::form_of))]
+fn act_from_162(
+    code: &Code<'_>,
+    program: &Program<'_>,
+    at: u64,
+    head: Head,
+    registers: &mut Registers,
+    memory: &mut Memory,
+) -> (Outcome, u64)
+    requires read { IsHead code.now at head }
+    requires low { 162 ≤ head.op }
+    requires high { head.op < 190 }
+    ensures next { result.1 ≡ (fetch_of code.now at).next }
+    ensures does { Does program.now.table code.now at (fetch_of code.now at).instr registers.old memory.old result.0 registers.new memory.new }
+    ensures registers { SameAfter result.0 registers.old registers.new }
+    ensures memory { SameAfter result.0 memory.old memory.new }
+{
+    match head.op {
+        170..=175 => act_as(code, program, at, head, Form::RRO, registers, memory),
+        180 => act_as(code, program, at, head, Form::RRXY, registers, memory),
+        _ => act_unknown(code, program, at, head, registers, memory),
     }
 }

@@ -1,4 +1,5 @@
 ghost use Rattle.std.specs.Prelude.{◌≡◌, ◌≤◌, ◌<◌, ◌-◌, ◌*◌, ◌^◌, ◌↔◌, false, length, IfOk, Err, MatchOption};
+ghost use Rattle.std.specs.Borrow.{sem};
 ghost use Rattle.std.specs.FinMap as map;
 ghost use Rattle.machine_state.specs.State.{register, with_register};
 ghost use Rattle.machine_state.specs.Output.{output_range};
@@ -7,14 +8,15 @@ ghost use Rattle.pvm_machine.specs.Stepped.{Costs, IsGivenSoFar, Keeps, stepped,
 ghost use Rattle.pvm_machine.specs.Ran.{IsRun, last_answer};
 ghost use Rattle.machine_state.specs.Start.{start_registers};
 ghost use Rattle.pvm_machine.specs.Started.{started};
+ghost use Rattle.pvm_machine.specs.Lending.{LendsMemory};
 
 use crate::answers::{Exit, StartFault, Step};
-use crate::instructions::{Outcome, Registers, act};
+use crate::instructions::{Outcome, Registers, act_at};
 use crate::start_memory::{FRAME_LIMIT, heap_bound, heap_top, start_memory};
 use blob_check::is_start;
 use blob_codec::{Container, Program};
 use page_memory::Memory;
-use pvm_ops::{Code, fetch};
+use pvm_ops::Code;
 use std::alloc::Global;
 use std::marker::Model;
 
@@ -41,15 +43,13 @@ pub struct Machine<'a> {
 }
 
 impl<'a> Model for Machine<'a> {
-    ghost use Rattle.pvm_machine.specs.Machine.{Machine, HasNoLowPage, machine_code};
+    ghost use Rattle.pvm_machine.specs.Machine.{Machine, machine_code};
 
     ghost Value = { Machine };
 
     ghost coded = { machine_code };
 
     ghost view = { λ m. record { table = m.program.table; code = m.code; counter = m.counter; state = record { registers = m.registers; memory = m.memory; heap_top = m.heap_top; heap_bound = m.heap_bound; frame_limit = m.frame_limit }; gas = m.gas } };
-
-    ghost invariant = { λ m. HasNoLowPage m.memory };
 }
 
 impl<'a> Machine<'a> {
@@ -105,17 +105,21 @@ impl<'a> Machine<'a> {
         }
         self.gas -= 1;
         let at = self.counter;
-        let fetched = fetch(&self.code, at);
-        match act(
+        let (outcome, next) = act_at(
             &self.code,
             &self.program,
             at,
-            fetched.instr,
             &mut self.registers,
             &mut self.memory,
-        ) {
+        );
+        // Most steps go on. Tested alone, this lets the compiler go on from where the outcome is made.
+        if let Outcome::Next = outcome {
+            self.counter = next;
+            return Step::Next;
+        }
+        match outcome {
             Outcome::Next => {
-                self.counter = fetched.next;
+                self.counter = next;
                 Step::Next
             }
             Outcome::Jump(target) => {
@@ -167,6 +171,14 @@ impl<'a> Machine<'a> {
         &self.memory
     }
 
+    /// The memory, to be changed. What the caller leaves is the machine's memory; the rest of the machine stays.
+    pub fn memory_mut(&mut self) -> &mut Memory
+        ensures* writes_back { sem 𝓛 (LendsMemory self.entry result) }
+        ensures memory { result.now ≡ self.old.state.memory }
+    {
+        &mut self.memory
+    }
+
     /// The gas that is left.
     pub fn gas(&self) -> u64
         ensures { result ≡ self.now.gas }
@@ -194,6 +206,7 @@ impl<'a> Machine<'a> {
     pub fn output_range(&self) -> Option<(u32, u32)>
         ensures { result ≡ output_range self.now.state.registers self.now.state.memory }
     {
+        self.memory.pages_begin_at_16();
         let at = self.registers[7];
         let len = self.registers[8];
         if len == 0 || len > 1 << 32 || at > (1 << 32) - len {

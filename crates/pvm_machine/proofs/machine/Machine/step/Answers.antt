@@ -1,4 +1,5 @@
-use Rattle.std.proofs.Common.{ap, sym, ◌∙◌}
+use Rattle.std.proofs.Common.{ap, refl, sym, ◌∙◌}
+use Rattle.pvm_ops.specs.Fetch.{fetch_of}
 use Rattle.machine_state.specs.State.{State}
 use Rattle.pvm_machine.specs.Outcomes.{with_parts}
 use Rattle.pvm_machine.specs.Stepped.{stepped}
@@ -16,26 +17,26 @@ returns-then-self-eq0-clause-step c = rw (← c.self.view_is) (sym (no_step _ c.
 
 pub returns-in-Next-clause-step : goal.returns-in-Next-clause-step
 returns-in-Next-clause-step c =
-    sym (fetched_step _ c.fetch-fetched.result _ Next (with_parts (state_in c.self.inside) c.act.new.registers c.act.new.memory) c.in-Next.is c.if-self-eq0.false c.fetch-fetched.ensures.value (c.act.ensures.does (state_in c.self.inside))) ∙ ap stepped c.self.view_is
+    rw c.act_at-outcome.ensures.next (sym (fetched_step _ (fetch_of c.self.inside.code c.self.inside.counter) _ Next (with_parts (state_in c.self.inside) c.act_at-outcome.new.registers c.act_at-outcome.new.memory) c.in-Next.is c.if-self-eq0.false refl (c.act_at-outcome.ensures.does (state_in c.self.inside))) ∙ ap stepped c.self.view_is)
 
 pub returns-in-Jump-clause-step : goal.returns-in-Jump-clause-step
 returns-in-Jump-clause-step c =
-    sym (fetched_step _ c.fetch-fetched.result _ (Jump c.in-Jump.target) (with_parts (state_in c.self.inside) c.act.new.registers c.act.new.memory) c.in-Jump.is c.if-self-eq0.false c.fetch-fetched.ensures.value (c.act.ensures.does (state_in c.self.inside))) ∙ ap stepped c.self.view_is
+    sym (fetched_step _ (fetch_of c.self.inside.code c.self.inside.counter) _ (Jump c.in-Jump.target) (with_parts (state_in c.self.inside) c.act_at-outcome.new.registers c.act_at-outcome.new.memory) c.in-Jump.is c.if-self-eq0.false refl (c.act_at-outcome.ensures.does (state_in c.self.inside))) ∙ ap stepped c.self.view_is
 
 pub returns-in-Halt-clause-step : goal.returns-in-Halt-clause-step
 returns-in-Halt-clause-step c =
-    sym (fetched_step _ c.fetch-fetched.result _ Halt (with_parts (state_in c.self.inside) c.act.new.registers c.act.new.memory) c.in-Halt.is c.if-self-eq0.false c.fetch-fetched.ensures.value (c.act.ensures.does (state_in c.self.inside))) ∙ ap stepped c.self.view_is
+    sym (fetched_step _ (fetch_of c.self.inside.code c.self.inside.counter) _ Halt (with_parts (state_in c.self.inside) c.act_at-outcome.new.registers c.act_at-outcome.new.memory) c.in-Halt.is c.if-self-eq0.false refl (c.act_at-outcome.ensures.does (state_in c.self.inside))) ∙ ap stepped c.self.view_is
 
 pub returns-in-Panic-clause-step : goal.returns-in-Panic-clause-step
 returns-in-Panic-clause-step c =
-    let registers = rw c.in-Panic.is at c.act.ensures.registers in
-    let memory = rw c.in-Panic.is at c.act.ensures.memory in
+    let registers = rw c.in-Panic.is at c.act_at-outcome.ensures.registers in
+    let memory = rw c.in-Panic.is at c.act_at-outcome.ensures.memory in
     rw (registers, memory)
-    (sym (fetched_step _ c.fetch-fetched.result _ Panic (with_parts (state_in c.self.inside) c.act.new.registers c.act.new.memory) c.in-Panic.is c.if-self-eq0.false c.fetch-fetched.ensures.value (c.act.ensures.does (state_in c.self.inside))) ∙ ap stepped c.self.view_is)
+    (sym (fetched_step _ (fetch_of c.self.inside.code c.self.inside.counter) _ Panic (with_parts (state_in c.self.inside) c.act_at-outcome.new.registers c.act_at-outcome.new.memory) c.in-Panic.is c.if-self-eq0.false refl (c.act_at-outcome.ensures.does (state_in c.self.inside))) ∙ ap stepped c.self.view_is)
 
 pub returns-in-Fault-clause-step : goal.returns-in-Fault-clause-step
 returns-in-Fault-clause-step c =
-    let registers = rw c.in-Fault.is at c.act.ensures.registers in
-    let memory = rw c.in-Fault.is at c.act.ensures.memory in
+    let registers = rw c.in-Fault.is at c.act_at-outcome.ensures.registers in
+    let memory = rw c.in-Fault.is at c.act_at-outcome.ensures.memory in
     rw (registers, memory)
-    (sym (fetched_step _ c.fetch-fetched.result _ (Fault c.in-Fault.page) (with_parts (state_in c.self.inside) c.act.new.registers c.act.new.memory) c.in-Fault.is c.if-self-eq0.false c.fetch-fetched.ensures.value (c.act.ensures.does (state_in c.self.inside))) ∙ ap stepped c.self.view_is)
+    (sym (fetched_step _ (fetch_of c.self.inside.code c.self.inside.counter) _ (Fault c.in-Fault.page) (with_parts (state_in c.self.inside) c.act_at-outcome.new.registers c.act_at-outcome.new.memory) c.in-Fault.is c.if-self-eq0.false refl (c.act_at-outcome.ensures.does (state_in c.self.inside))) ∙ ap stepped c.self.view_is)

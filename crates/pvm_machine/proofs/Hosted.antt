@@ -1,0 +1,199 @@
+-- The run of a machine with any host, by the machine's steps alone: up to the last step all turns are quiet, and where the
+-- last one calls the host, the run is the host's answer and what comes then. So a program that repeats steps, and answers
+-- a call itself each time, makes this run.
+use Rattle.std.proofs.Common.{◌≡◌, ℕ, zero, suc, ◌+◌, ◌-◌, ◌<◌, ◌≤◌, List, [], ◌∷◌, ◌++◌, Option, Some, None, refl, ap, sym, ◌∙◌, subst, arith, zero-add}
+use Rattle.std.proofs.lemmas.Bool.{le-leb, lt-leb}
+use Rattle.std.proofs.lemmas.List.{append-nil}
+use Rattle.runs.specs.Turn.{Turn, Goes, Stops}
+use Rattle.runs.specs.Runs.{Paid, paid, go_if, pay, pay_run}
+use Rattle.runs.specs.Machine.{Outcome, Next, Jump, Call, Ends, At, placed, move}
+use Rattle.runs.specs.World.{World, beside}
+use Rattle.runs.specs.Laid.{Fetched}
+use Rattle.runs.proofs.Fuel.{one_instruction, paid_paid, CameTo, comes_first, comes_quiet, comes_to_end}
+use Rattle.machine_state.specs.Memory.{Memory}
+use Rattle.machine_state.specs.State.{State}
+use Rattle.machine_state.specs.Ends.{Event, End, Halt, Panic, Fault, Unanswered, BadReply, Answer, Answered, Ended, Host, event, called, rules}
+use Rattle.pvm_machine.specs.Machine.{Machine, standing}
+use Rattle.pvm_machine.specs.Step.{Standing, instr_at, machine_step}
+use Rattle.pvm_machine.specs.Stepped.{Stepped, gone, came_out, stayed, stepped, all_steps}
+use Rattle.pvm_machine.specs.Ran.{last_answer, run_with, call_turn, IsRunWith}
+use Rattle.pvm_machine.specs.declared.answers.Step.{Step}
+use Rattle.pvm_machine.specs.declared.answers.Step.TheVariants as answer
+use Rattle.pvm_machine.specs.declared.answers.Exit.{Exit}
+use Rattle.pvm_machine.specs.declared.answers.Exit.TheVariants as exit
+use Rattle.pvm_machine.proofs.Steps.{begins, no_step}
+use Rattle.pvm_machine.proofs.Runs.{steps_on, steps_end}
+use Rattle.pvm_machine.proofs.Done.{IsDone, is_done}
+
+-- what a last step has paid before the machine stands behind it: a call, its instruction
+abbrev cost : Step → ℕ
+cost answer.Next = 0
+cost answer.Halt = 0
+cost answer.Panic = 0
+cost (answer.Fault address) = 0
+cost answer.OutOfGas = 0
+cost (answer.Host number) = 1
+cost answer.Memory = 0
+
+one_at_most : (how : Step) → cost how ≤ 1
+one_at_most answer.Next = omega arith
+one_at_most answer.Halt = omega arith
+one_at_most answer.Panic = omega arith
+one_at_most (answer.Fault address) = omega arith
+one_at_most answer.OutOfGas = omega arith
+one_at_most (answer.Host number) = omega arith
+one_at_most answer.Memory = omega arith
+
+module _ {Held : Type 0} (host : Host Held) (held : Held) where
+  abbrev steps_of : Machine → At ℕ (World State Held) → Turn (At ℕ (World State Held)) Event End
+  steps_of m = machine_step host m.table m.code
+
+  -- a machine ran so, and has no more gas than before
+  pub record Runs (m : Machine) (r : Stepped) : Type 0 where
+    pub run : IsRunWith host held m r.machine r.answer
+    pub less : r.machine.gas + cost r.answer ≤ m.gas
+
+  -- an instruction more before a run
+  one_more : (m next new : Machine) (how : Step) → m.table ≡ next.table → m.code ≡ next.code → run_with host held m ≡ paid [] 1 (run_with host held next) → m.gas ≡ suc next.gas → new.gas + cost how ≤ next.gas → IsRunWith host held next new how → IsRunWith host held m new how
+  one_more m next new how table code is gas less ran = by_answer how ran less
+    where
+      told : (end : Option End) → new.gas ≤ next.gas → run_with host held next ≡ record { events = []; end = end; left = new.gas; begun = next.gas - new.gas } → run_with host held m ≡ record { events = []; end = end; left = new.gas; begun = m.gas - new.gas }
+      told end le e =
+          let count : 1 + (next.gas - new.gas) ≡ m.gas - new.gas = omega arith in
+          is ∙ ap (paid [] 1) e ∙ ap (λ (n : ℕ). record { events = []; end = end; left = new.gas; begun = n }) count
+
+      by_answer : (how : Step) → IsRunWith host held next new how → new.gas + cost how ≤ next.gas → IsRunWith host held m new how
+      by_answer answer.Next h le = h
+      by_answer answer.Halt h le = told _ (omega arith) h
+      by_answer answer.Panic h le = told _ (omega arith) h
+      by_answer (answer.Fault address) h le = told _ (omega arith) h
+      by_answer answer.OutOfGas h le = told _ (omega arith) h
+      by_answer (answer.Host number) h le =
+          let p : Paid Event End = pay (pay_run (steps_of m)) new.gas (call_turn host held new number) in
+          let h' : run_with host held next ≡ paid [] (next.gas - (new.gas + 1)) p = rw (table, code) h in
+          let count : 1 + (next.gas - (new.gas + 1) + p.begun) ≡ m.gas - (new.gas + 1) + p.begun = omega arith in
+          is ∙ ap (paid [] 1) h' ∙ ap (λ (n : ℕ). record { events = p.events; end = p.end; left = p.left; begun = n }) count
+      by_answer answer.Memory h le = h
+
+  -- a machine with gas for an instruction, where machines with one less run so
+  module _ (k : ℕ) (rest : (m : Machine) → m.gas ≡ k → Runs m (all_steps m)) (m : Machine) (gas : m.gas ≡ suc k) where
+    -- the machine, where it has gone to
+    abbrev gone_to : ℕ → State → Machine
+    gone_to at s = record { table = m.table; code = m.code; counter = at; state = s; gas = k }
+
+    -- a quiet step, and then the rest
+    goes : (at : ℕ) (s : State) → steps_of m (standing m held) ≡ Goes [] 0 0 (record { at = at; of = record { state = s; held = held } }) → stepped m ≡ gone (record m { gas = k }) at s answer.Next → Runs m (all_steps m)
+    goes at s turn is =
+        let n : Machine = gone_to at s in
+        let on : all_steps m ≡ all_steps n = steps_on m n (sym is) (omega arith) in
+        let later : Runs n (all_steps n) = rest n refl in
+        let first : pay_run (steps_of m) (suc k) (standing m held) ≡ paid [] 1 (run_with host held n) = comes_quiet (steps_of m) (suc k) (standing m held) 0 k (standing m held) (standing n held) (comes_first (steps_of m) (suc k) (standing m held)) turn in
+        let whole : run_with host held m ≡ paid [] 1 (run_with host held n) = ap (λ (g : ℕ). pay_run (steps_of m) g (standing m held)) gas ∙ first in
+        let less : (all_steps n).machine.gas + cost (all_steps n).answer ≤ m.gas = omega (arith, later.less) in
+        rw on (record { run = one_more m n (all_steps n).machine (all_steps n).answer refl refl whole (omega arith) later.less later.run; less = less })
+
+    -- what was told of a run that ends now without a host call
+    abbrev ends_so : End → Paid Event End
+    ends_so end = record { events = []; end = Some end; left = k; begun = m.gas - k }
+
+    -- a step that ends the run
+    stops : (end : End) → steps_of m (standing m held) ≡ Stops [] end → run_with host held m ≡ record { events = []; end = Some end; left = k; begun = m.gas - k }
+    stops end turn =
+        let last = comes_to_end (steps_of m) (suc k) (standing m held) 0 k (standing m held) [] end (comes_first (steps_of m) (suc k) (standing m held)) turn in
+        let one : 0 + 1 ≡ m.gas - k = omega arith in
+        ap (λ (g : ℕ). pay_run (steps_of m) g (standing m held)) gas ∙ last ∙ ap (λ (n : ℕ). record { events = []; end = Some end; left = k; begun = n }) one
+
+    -- a step that calls the host
+    calls : (number next : ℕ) (s : State) → steps_of m (standing m held) ≡ call_turn host held (gone_to next s) number → IsRunWith host held m (gone_to next s) (answer.Host number)
+    calls number next s turn =
+        let p : Paid Event End = pay (pay_run (steps_of m)) k (call_turn host held (gone_to next s) number) in
+        let none : 0 ≡ m.gas - (k + 1) = omega arith in
+        ap (λ (g : ℕ). pay_run (steps_of m) g (standing m held)) gas
+        ∙ one_instruction (steps_of m) k (standing m held)
+        ∙ ap (pay (pay_run (steps_of m)) k) turn
+        ∙ ap (λ (n : ℕ). record { events = p.events; end = p.end; left = p.left; begun = n }) (sym (zero-add p.begun))
+        ∙ ap (λ (n : ℕ). paid [] n p) none
+
+    -- the run has no more steps
+    ends : (next : Machine) (e : Exit) → next.gas ≡ k → stepped m ≡ stayed next (last_answer e) → IsRunWith host held m next (last_answer e) → Runs m (all_steps m)
+    ends next e left is ran = rw (← steps_end m next e (sym is)) (record { run = ran; less = omega (arith, one_at_most (last_answer e)) })
+
+    -- the instruction comes out so
+    comes : (next : ℕ) (x : Outcome ℕ State End) → IsDone m.state x → steps_of m (standing m held) ≡ move (rules host) (λ p. p) next (beside held x) → stepped m ≡ came_out (record m { gas = k }) next x → Runs m (all_steps m)
+    comes next (Next s) done turn is = goes next s turn is
+    comes next (Jump target s) done turn is = goes target s turn is
+    comes next (Call number s) done turn is = ends (gone_to next s) (exit.Host number) refl is (calls number next s turn)
+    comes next (Ends (Halt registers memory)) done turn is = ends (gone_to m.counter (record m.state { registers = registers; memory = memory })) exit.Halt refl is (stops _ turn)
+    comes next (Ends (Panic memory)) done turn is = ends (record m { gas = k }) exit.Panic refl is (stops _ turn ∙ ap (λ (kept : Memory). ends_so (Panic kept)) done)
+    comes next (Ends (Fault address memory)) done turn is = ends (record m { gas = k }) (exit.Fault address) refl is (stops _ turn ∙ ap (λ (kept : Memory). ends_so (Fault address kept)) done)
+    comes next (Ends (Unanswered number memory)) done turn is = absurd done
+    comes next (Ends (BadReply line address memory)) done turn is = absurd done
+
+    -- what stands at the counter is done
+    fetches : (o : Option (Fetched Standing ℕ)) → instr_at m.code m.counter ≡ o → Runs m (all_steps m)
+    fetches None none = ends (record m { gas = k }) exit.Panic refl (begins m k gas ∙ rw none refl) (stops _ (rw none refl))
+    fetches (Some f) some = comes f.next _ (is_done m.table m.code f.instr m.state) (rw some refl) (begins m k gas ∙ rw some refl)
+
+    runs_more : Runs m (all_steps m)
+    runs_more = fetches _ refl
+
+  -- without gas nothing is run
+  runs_none : (m : Machine) → m.gas ≡ 0 → Runs m (all_steps m)
+  runs_none m none =
+      let told : run_with host held m ≡ record { events = []; end = None; left = m.gas; begun = m.gas - m.gas } = rw none refl in
+      rw (← steps_end m m exit.OutOfGas (sym (no_step m none))) (record { run = told; less = omega arith })
+
+  runs_of : (gas : ℕ) (m : Machine) → m.gas ≡ gas → Runs m (all_steps m)
+  runs_of zero m e = runs_none m e
+  runs_of (suc k) m e = runs_more k (λ n f. runs_of k n f) m e
+
+  -- what the steps of a machine come to is its run under gas, up to the first call
+  pub ran_with : (m next : Machine) (e : Exit) → record { machine = next; answer = last_answer e } ≡ all_steps m → IsRunWith host held m next (last_answer e)
+  ran_with m next e is =
+      let IsRunTo : Stepped → Type 0 = λ r. IsRunWith host held m r.machine r.answer in
+      subst IsRunTo (sym is) (runs_of m.gas m refl).run
+
+-- The invariant of a loop that repeats steps and answers each call: the run from s0 is what was told and begun so far, and
+-- then the run of the machine from here, with what the host holds now.
+module _ {Held : Type 0} (host : Host Held) (gas0 : ℕ) (s0 : At ℕ (World State Held)) (m : Machine) (held : Held) (events : List Event) (begun : ℕ)
+    (came : CameTo (machine_step host m.table m.code) gas0 s0 events begun m.gas (standing m held)) (next : Machine) where
+  -- the whole run, and what it is up to a call
+  abbrev all_run : Paid Event End
+  all_run = pay_run (machine_step host m.table m.code) gas0 s0
+
+  abbrev so_far : ℕ
+  so_far = begun + (m.gas - (next.gas + 1))
+
+  module _ (number : ℕ) (is : record { machine = next; answer = answer.Host number } ≡ all_steps m) where
+    abbrev told : Event
+    told = event number next.state
+
+    abbrev asked : Answer Held
+    asked = host number (record { state = next.state; held = held })
+
+    pub to_call : all_run ≡ paid events so_far (pay (pay_run (machine_step host m.table m.code)) next.gas (placed next.counter (called told asked)))
+    to_call =
+        let call : run_with host held m ≡ paid [] (m.gas - (next.gas + 1)) (pay (pay_run (machine_step host m.table m.code)) next.gas (placed next.counter (called told asked))) = ran_with host held m next (exit.Host number) is in
+        came ∙ ap (paid events begun) call ∙ paid_paid events [] begun (m.gas - (next.gas + 1)) _
+        ∙ ap (λ l. paid l so_far (pay (pay_run (machine_step host m.table m.code)) next.gas (placed next.counter (called told asked)))) (append-nil events)
+
+    -- the call is answered, within the gas: the loop goes on from where the step stands, in the world of the answer
+    pub answered_on : (spent rest : ℕ) (w : World State Held) → asked ≡ Answered spent rest w → spent + rest ≤ next.gas
+        → CameTo (machine_step host m.table m.code) gas0 s0 (events ++ told ∷ []) (so_far + (1 + spent)) (next.gas - spent) (record { at = next.counter; of = w })
+    answered_on spent rest w e le =
+        to_call
+        ∙ ap (λ a. paid events so_far (pay (pay_run (machine_step host m.table m.code)) next.gas (placed next.counter (called told a)))) e
+        ∙ ap (λ b. paid events so_far (go_if b (pay_run (machine_step host m.table m.code)) next.gas (told ∷ []) spent (record { at = next.counter; of = w }))) (le-leb (spent + rest) next.gas le)
+        ∙ paid_paid events (told ∷ []) so_far (1 + spent) _
+
+    -- an inner machine asks for more gas than is left: the run ends for want of gas
+    pub short_of_gas : (spent rest : ℕ) (w : World State Held) → asked ≡ Answered spent rest w → next.gas < spent + rest
+        → all_run ≡ record { events = events ++ told ∷ []; end = None; left = next.gas; begun = so_far + 1 }
+    short_of_gas spent rest w e lt =
+        to_call
+        ∙ ap (λ a. paid events so_far (pay (pay_run (machine_step host m.table m.code)) next.gas (placed next.counter (called told a)))) e
+        ∙ ap (λ b. paid events so_far (go_if b (pay_run (machine_step host m.table m.code)) next.gas (told ∷ []) spent (record { at = next.counter; of = w }))) (lt-leb (spent + rest) next.gas lt)
+
+    -- the host ends the run
+    pub ended_by : (end : End) → asked ≡ Ended end → all_run ≡ record { events = events ++ told ∷ []; end = Some end; left = next.gas; begun = so_far + 1 }
+    ended_by end e = to_call ∙ ap (λ a. paid events so_far (pay (pay_run (machine_step host m.table m.code)) next.gas (placed next.counter (called told a)))) e

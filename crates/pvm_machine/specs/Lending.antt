@@ -1,0 +1,17 @@
+-- What a machine is after its memory was borrowed to be changed.
+use Rattle.std.specs.Prelude.{[]}
+use mir.Syntax.{named}
+use Rattle.std.specs.Borrow.{Lends, MutBor, Fml}
+use Rattle.machine_state.specs.Memory.{Memory}
+use Rattle.machine_state.specs.State.{with_memory}
+use Rattle.page_memory.specs.contracts.memory.Memory as memory
+use Rattle.pvm_machine.specs.contracts.machine.Machine as machine
+use Rattle.pvm_machine.specs.Machine.{Machine}
+
+-- the machine with another memory
+abbrev pub machine_with : Machine → Memory → Machine
+machine_with m pages = record m { state = with_memory m.state pages }
+
+-- the machine ends with the last memory behind the reference, and is else as before
+abbrev pub LendsMemory : MutBor Machine → MutBor Memory → Fml
+LendsMemory m r = Lends (machine.the_row (record { mir = named 1; lft = [] })) memory.the_row m r (machine_with m.now)
