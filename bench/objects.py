@@ -3,6 +3,7 @@
 
     objects.py [PROGRAM] [--rounds 5] [--sections 10000] [--symbols 100000] [--relocations 100000]
     objects.py [PROGRAM] --corpus FOLDER [--rounds 5]
+    objects.py [PROGRAM] --hostile [--rounds 5]
 
 PROGRAM is crates/polkatool/out/polkatool of this repository if left out. It runs on Linux alone. The status is 0 where
 no value is over its bar and every run ended as it may, else 1.
@@ -24,6 +25,10 @@ With --corpus each program.json below FOLDER is a program: `entries` are its ent
 variant is linked, and each object alone, and it is counted which answers there were, by the first line without the
 place. A run that crashes, gives no answer in time, ends with another status than 0 and 1 or puts another line is told.
 Of the variants whose objects were all read, that with the most bytes is then measured, as the objects above are.
+
+With --hostile it makes objects of almost 2^24 bytes whose sections, relocations or names share as many bytes as they
+may, and one as above of that size. Each is linked in turn, and its time is printed beside that of the last one. There
+is no bar: what bounds these times is said in docs/DECISIONS.md.
 """
 import collections
 import json
@@ -43,7 +48,11 @@ from make import ALLOC_AND_EXECINSTR, GLOBAL_FUNCTION, PROGBITS, RELOCATABLE, RI
 RATIO_BAR = 1.5  # time a byte of the largest object over that of the smallest
 MEMORY_BAR = 4  # bytes of memory a byte of object, besides the object
 TIMEOUT = 300  # seconds for one link of a corpus
-DONE, REFUSED = 0, 1  # the statuses of a link and of a refusal
+DONE, REFUSED, NO_MEMORY = 0, 1, 9  # the statuses of a link, of a refusal and of want of memory
+LARGEST = 1 << 24  # the bytes of the largest object
+MOST_SECTIONS = 0xFFFF
+MOST_RELOCATIONS = 1 << 24  # of an object, else it is refused as memory is
+MOST_NAME_BYTES = 1 << 28  # of the GLOBAL and WEAK symbols, else they are refused as memory is
 
 RELA = 4
 INFO_LINK = 0x40  # the flag of a section whose info is the number of a section
@@ -131,13 +140,95 @@ def object_of(sections, symbols, relocations):
     add(at, SYMTAB, 0, entries, table_at + 1, first, 8, 24)
     add(at + 8, STRTAB, 0, names, 0, 0, 1, 0)
     add(at + 16, STRTAB, 0, section_names, 0, 0, 1, 0)
+    line = "refused 63 NotBuilt object=0 section=%d offset=0\n" % (2 * texts - 1)
+    return file_of(body, headers, table_at + 2), line.encode()
+
+
+def file_of(body, headers, names):
+    """The bytes of an object, of which the first 64 of the body are kept for its header: the number of the section with
+    the names of sections is the last."""
     body.extend(bytes(-len(body) % 8))
     header = b"\x7fELF\x02\x01\x01" + bytes(9)
-    sizes = (64, 0, 0, 64, sections, table_at + 2)
+    sizes = (64, 0, 0, 64, len(headers), names)
     header += struct.pack("<HHIQQQIHHHHHH", RELOCATABLE, RISCV, 1, 0, 0, len(body), RV64E, *sizes)
     body[:64] = header
-    line = "refused 63 NotBuilt object=0 section=%d offset=0\n" % (2 * texts - 1)
-    return bytes(body) + b"".join(headers), line.encode()
+    return bytes(body) + b"".join(headers)
+
+
+def hostile_object(count, entries, symbols, names, section_names, shared):
+    """An object of almost the largest size, with a section of code, so many RELA sections that share these entries, the
+    symbols and their names, and further sections up to a count, each with the name at the start of the shared one."""
+    body = bytearray(64)
+
+    def put(content):
+        body.extend(bytes(-len(body) % 8))
+        body.extend(content)
+        return len(body) - len(content), len(content)
+
+    rows = [(1, PROGBITS, ALLOC_AND_EXECINSTR, *put(TEXT), 0, 0, 4, 0)]
+    rows += [(1, RELA, INFO_LINK, *put(entries), 2, 1, 8, 24)] if shared else []
+    rows = rows[:1] + [(1, SYMTAB, 0, *put(symbols), 3, 1, 8, 24), (1, STRTAB, 0, *put(names), 0, 0, 1, 0)] + rows[1:] * shared
+    rows += [(1, PROGBITS, ALLOC_AND_EXECINSTR, 0, 0, 0, 0, 4, 0)] * (count - len(rows) - 2)
+    room = LARGEST - len(body) - 64 * (len(rows) + 2) - 16
+    text = b"\0" + b"n" * (room - 2 if section_names else 8) + b"\0"
+    rows.append((1, STRTAB, 0, *put(text + bytes(room - len(text))), 0, 0, 1, 0))
+    return file_of(body, [section(0, 0, 0, 0, 0, 0, 0, 0, 0), *(section(*row) for row in rows)], len(rows))
+
+
+def names_that_share(words, length):
+    """The names of symbols, words of this length that end in different ways, and where a name begins at each byte."""
+    texts = [b"a" * (length - 8) + b"%08d" % word for word in range(words)]
+    starts = [1 + word * (length + 1) + at for word in range(words) for at in range(length - 8)]
+    return b"\0" + b"".join(text + b"\0" for text in texts), starts
+
+
+def hostile_objects():
+    """What each hostile object is, and its bytes."""
+    null = symbol(0, 0, 0, 0)
+    relax = struct.pack("<QIIq", 0, RELAX, 0, 0)
+    room = LARGEST - 4096
+    each = MOST_RELOCATIONS // 32
+    yield "sections of one name", hostile_object(MOST_SECTIONS, b"", null, b"\0", True, 0)
+    yield "relocations shared, as many as may be", hostile_object(0, relax * each, null, b"\0", False, 32)
+    yield "relocations shared, too many", hostile_object(0, relax * each, null, b"\0", False, 60000)
+    one = b"\0" + b"n" * (room // 3) + b"\0"
+    count = room // 3 // 24
+    few = MOST_NAME_BYTES // len(one) - 1
+    yield "symbols of one name, too many", hostile_object(0, b"", null + symbol(1, GLOBAL_UNDEFINED, 0, 0) * count, one, False, 0)
+    yield "symbols of one name, as many as may be", hostile_object(0, b"", null + symbol(1, GLOBAL_UNDEFINED, 0, 0) * few, one, False, 0)
+    for what, words, length in ("names that share bytes, long", 1, 23000), ("names that share bytes, many", 228, 1520):
+        names, starts = names_that_share(words, length)
+        entries = b"".join(symbol(at, GLOBAL_FUNCTION, 1, 0) for at in starts)
+        yield what, hostile_object(0, b"", null + entries, names, False, 0)
+
+
+def measure_hostile(program, options, folder):
+    """Prints the time of each hostile object beside that of a harmless one of the same size."""
+    part = next(part for part in range(100, 0, -1) if len(object_of(200 * part, 2000 * part, 2000 * part)[0]) <= LARGEST)
+    harmless = object_of(200 * part, 2000 * part, 2000 * part)[0]
+    cases = [*hostile_objects(), ("none of these", harmless)]
+    took = [[] for _ in cases]
+    starts = []
+    sources = []
+    for number, (_, content) in enumerate(cases):
+        sources.append(os.path.join(folder, "%d.o" % number))
+        with open(sources[-1], "wb") as file:
+            file.write(content)
+    statuses = {}
+    for _ in range(options.rounds):
+        starts.append(started(program))
+        for number, source in enumerate(sources):
+            time, done = seconds([program, "link", "-o", os.path.join(folder, "out.pvm"), source])
+            if done.returncode not in (DONE, REFUSED, NO_MEMORY):
+                sys.exit("%s ended with status %d" % (cases[number][0], done.returncode))
+            statuses[number] = done.returncode
+            took[number].append(time)
+    start = min(starts)
+    usual = (min(took[-1]) - start) / len(harmless)
+    for number, (what, content) in enumerate(cases):
+        a_byte = (min(took[number]) - start) / len(content)
+        text = "%-40s %9d bytes  status %d  %9.2f ns a byte  %8.2f times the last"
+        print(text % (what, len(content), statuses[number], a_byte * 1e9, a_byte / usual))
 
 
 def timed(program, words, status, line):
@@ -266,11 +357,15 @@ def main():
     words.add_argument("--symbols", type=int, default=100000)
     words.add_argument("--relocations", type=int, default=100000)
     words.add_argument("--corpus")
+    words.add_argument("--hostile", action="store_true")
     options = words.parse_args()
     program = program_in(options)
     with tempfile.TemporaryDirectory() as folder:
         if options.corpus:
             return 0 if measure_corpus(program, options, folder) else 1
+        if options.hostile:
+            measure_hostile(program, options, folder)
+            return 0
         found = measure(program, options, folder)
     smallest, largest = found[0][0], found[-1][0]
     if smallest <= 0:

@@ -1,5 +1,6 @@
 pub mod FieldLaws
 pub mod LastZero
+pub mod NameEnds
 pub mod Rows
 pub mod Places
 pub mod Order

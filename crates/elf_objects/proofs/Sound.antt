@@ -31,6 +31,7 @@ use Rattle.elf_objects.specs.Sound.{KeepsSection, LiesWithin, KeepsSymbol, Keeps
 use Rattle.elf_objects.specs.Index.{LeadsTo}
 use Rattle.elf_objects.proofs.BoolParts.{both-left, both-right, either-right, neither-left, neither-right, fails-right, not-false}
 use Rattle.elf_objects.proofs.Records.{length-sections_of, length-symbols_of, slice_get-sections_of}
+use Rattle.elf_objects.specs.declared.fault.TheConstants.{BAD_TABLE, BAD_SYMBOL, BAD_RELOCATION, UNSUPPORTED_SECTION}
 
 -- no fault of a kind is present in a section
 sections-hold : (b : List ℕ) → faults_of b ≡ [] → section_faults b ≡ []
@@ -40,20 +41,20 @@ sections-hold b e = none-right (header_faults b) (section_faults b) e
 table-holds : (b : List ℕ) (s : ℕ) → faults_of b ≡ [] → s < section_count b → is_bad_section b s ≡ false
 table-holds b s e lt =
     let phase = none-left _ _ (sections-hold b e) in
-    none-broken _ (refusal 4 s 0) (none-each (section_count b) s (λ i. broken (is_bad_section b i) (refusal 4 i 0)) phase lt)
+    none-broken _ (refusal BAD_TABLE s 0) (none-each (section_count b) s (λ i. broken (is_bad_section b i) (refusal BAD_TABLE i 0)) phase lt)
 
 supported-holds : (b : List ℕ) (s : ℕ) → faults_of b ≡ [] → s < section_count b → is_unsupported b s ≡ false
 supported-holds b s e lt =
     let n = section_count b in
-    let tables = each_below n (λ i. broken (is_bad_section b i) (refusal 4 i 0)) in
+    let tables = each_below n (λ i. broken (is_bad_section b i) (refusal BAD_TABLE i 0)) in
     let phase = none-left _ _ (none-right tables _ (sections-hold b e)) in
-    none-broken _ (refusal 8 s 0) (none-each n s (λ i. broken (is_unsupported b i) (refusal 8 i 0)) phase lt)
+    none-broken _ (refusal UNSUPPORTED_SECTION s 0) (none-each n s (λ i. broken (is_unsupported b i) (refusal UNSUPPORTED_SECTION i 0)) phase lt)
 
 later-hold : (b : List ℕ) → faults_of b ≡ [] → (each_below (section_count b) (symbol_faults b) ≡ []) × (each_below (section_count b) (relocation_faults b) ≡ [])
 later-hold b e =
     let n = section_count b in
-    let tables = each_below n (λ s. broken (is_bad_section b s) (refusal 4 s 0)) in
-    let supported = each_below n (λ s. broken (is_unsupported b s) (refusal 8 s 0)) in
+    let tables = each_below n (λ s. broken (is_bad_section b s) (refusal BAD_TABLE s 0)) in
+    let supported = each_below n (λ s. broken (is_unsupported b s) (refusal UNSUPPORTED_SECTION s 0)) in
     let names = each_below n (name_faults b) in
     let symbols = each_below n (symbol_faults b) in
     let both = none-right names _ (none-right supported _ (none-right tables _ (sections-hold b e))) in
@@ -62,12 +63,12 @@ later-hold b e =
 symbol-holds : (b : List ℕ) (s i : ℕ) → faults_of b ≡ [] → s < section_count b → is_symbol_table b s ≡ true → i < symbol_entry_count b → is_bad_symbol b i ≡ false
 symbol-holds b s i e lt is small =
     let all = none-part (is_symbol_table b s) _ (none-each (section_count b) s (symbol_faults b) (later-hold b e).0 lt) is in
-    none-broken _ (refusal 6 s i) (none-each (symbol_entry_count b) i (λ k. broken (is_bad_symbol b k) (refusal 6 s k)) all small)
+    none-broken _ (refusal BAD_SYMBOL s i) (none-each (symbol_entry_count b) i (λ k. broken (is_bad_symbol b k) (refusal BAD_SYMBOL s k)) all small)
 
 relocation-holds : (b : List ℕ) (r k : ℕ) → faults_of b ≡ [] → r < section_count b → is_rela b r ≡ true → k < entry_count b r → is_bad_relocation b (header_of b r).info (relocation_in (bytes_of b (header_of b r)) (24 * k)) ≡ false
 relocation-holds b r k e lt is small =
     let all = none-part (is_rela b r) _ (none-each (section_count b) r (relocation_faults b) (later-hold b e).1 lt) is in
-    none-broken _ (refusal 7 r k) (none-each (entry_count b r) k (λ i. broken (is_bad_relocation b (header_of b r).info (relocation_in (bytes_of b (header_of b r)) (24 * i))) (refusal 7 r i)) all small)
+    none-broken _ (refusal BAD_RELOCATION r k) (none-each (entry_count b r) k (λ i. broken (is_bad_relocation b (header_of b r).info (relocation_in (bytes_of b (header_of b r)) (24 * i))) (refusal BAD_RELOCATION r i)) all small)
 
 -- What the entry of a relocation keeps
 

@@ -1,9 +1,9 @@
 -- The object that the bytes b of a file spell, if they have no fault: its parts by their numbers.
-use Rattle.std.specs.Prelude.{ℕ, ◌==◌, ◌||◌, if◌then◌else◌, List, [], map, Option, Some, None}
+use Rattle.std.specs.Prelude.{ℕ, ◌==◌, ◌||◌, if◌then◌else◌, Bool, List, [], map, Option, Some, None}
 use Rattle.std.specs.List.{range_with_len}
-use Rattle.elf_objects.specs.Headers.{header_of, section_count}
+use Rattle.elf_objects.specs.Headers.{file_flags, header_of, section_count}
 use Rattle.elf_objects.specs.Contents.{bytes_of, name_at, section_names}
-use Rattle.elf_objects.specs.Sections.{section_kind, symbol_table}
+use Rattle.elf_objects.specs.Sections.{has_flag, section_kind, symbol_table}
 use Rattle.elf_objects.specs.Symbols.{symbol_count, symbol_at}
 use Rattle.elf_objects.specs.Relocations.{relocations_for}
 use Rattle.elf_objects.specs.Objects.{Section, Symbol, Object}
@@ -34,7 +34,16 @@ abbrev pub number_or_zero : Option ℕ → ℕ
 number_or_zero None = 0
 number_or_zero (Some s) = s
 
+-- the file may have instructions of 2 bytes: its flags have RVC, which is 1
+abbrev pub is_compressed : List ℕ → Bool
+is_compressed b = has_flag (file_flags b) 1
+
 -- the object
 abbrev pub object_in : List ℕ → Object
 object_in b =
-    record { sections = sections_of b; symbols = symbols_of b; symbol_table = number_or_zero (symbol_table b) }
+    record {
+      compressed = is_compressed b;
+      sections = sections_of b;
+      symbols = symbols_of b;
+      symbol_table = number_or_zero (symbol_table b);
+    }

@@ -7,6 +7,10 @@ use Rattle.elf_objects.specs.declared.section_header.SectionHeader.{SectionHeade
 abbrev pub identification : List ℕ
 identification = 0x7f ∷ 0x45 ∷ 0x4c ∷ 0x46 ∷ 2 ∷ 1 ∷ 1 ∷ []
 
+-- the flags of the file, which say for which instructions and registers it is (psABI, "File Header")
+abbrev pub file_flags : List ℕ → ℕ
+file_flags b = word_32 b 48
+
 -- the offset of the section headers
 abbrev pub table_at : List ℕ → ℕ
 table_at b = word_64 b 40

@@ -2,7 +2,8 @@
 -- before each of them.
 use Rattle.std.specs.Prelude.{◌≡◌, ◌≢◌, ◌≤◌, ◌<◌, ◌+◌, ◌-◌, ◌*◌, Some, ℕ, zero, suc, true, cond, List, [], ◌∷◌, ◌++◌, length, slice_index_or, slice_get}
 use Rattle.elf_objects.specs.Headers.{header_of, section_count}
-use Rattle.elf_objects.specs.Contents.{bytes_of}
+use Rattle.elf_objects.specs.Contents.{bytes_of, section_names}
+use Rattle.elf_objects.specs.Symbols.{symbol_names}
 use Rattle.elf_objects.specs.Faults.{faults_of}
 use Rattle.elf_objects.specs.Relocations.{is_rela_of, relocations_below, relocations_for, relocation_in, entry_count}
 use Rattle.elf_objects.specs.declared.relocation_index.Part.{Part}
@@ -52,9 +53,11 @@ pub record HoldsPart (parts : List Part) (at i : ℕ) : Type 0 where
   pub begins : (slice_index_or parts i no_part).before ≤ at
   pub ends : i + 1 < length parts → at < (slice_index_or parts (i + 1) no_part).before
 
--- a file has no fault, and the rows are the index of its relocations
-pub record IsRead (b : List ℕ) (rows : List Row) : Type 0 where
+-- a file has no fault; the names of its sections and of its symbols are at hand, and the index of its relocations
+pub record IsRead (b names entry_names : List ℕ) (rows : List Row) : Type 0 where
   pub sound : faults_of b ≡ []
+  pub named : names ≡ section_names b
+  pub entries_named : entry_names ≡ symbol_names b
   pub indexed : IsIndexed b rows (section_count b)
 
 -- a part of section s holds the relocation with a number

@@ -2,6 +2,7 @@ pub mod Objects
 pub mod Fields
 pub mod Headers
 pub mod Contents
+pub mod NameEnds
 pub mod Sections
 pub mod Symbols
 pub mod Widths

@@ -1,11 +1,20 @@
 -- What an object is: its sections, symbols and relocations (gABI, "Object Files").
-use Rattle.std.specs.Prelude.{◌≡◌, ℕ, List, [], Option, Some, None, slice_get}
+use Rattle.std.specs.Prelude.{◌≡◌, ℕ, Bool, true, false, List, [], Option, Some, None, slice_get}
 use Rattle.elf_objects.specs.declared.parts.SectionKind.{SectionKind}
+use Rattle.elf_objects.specs.declared.parts.SectionKind.TheVariants as kinds
 use Rattle.elf_objects.specs.declared.parts.Binding.{Binding}
 use Rattle.elf_objects.specs.declared.parts.SymbolIndex.{SymbolIndex}
 use Rattle.elf_objects.specs.declared.parts.Relocation.{Relocation}
 use Rattle.elf_objects.specs.declared.parts.Section as lent_section
 use Rattle.elf_objects.specs.declared.parts.Symbol as lent_symbol
+
+-- a section of this kind takes part in the program
+abbrev pub is_loaded_kind : SectionKind → Bool
+is_loaded_kind kinds.Code = true
+is_loaded_kind kinds.ReadOnly = true
+is_loaded_kind kinds.Writable = true
+is_loaded_kind kinds.Zero = true
+is_loaded_kind kinds.Unloaded = false
 
 -- a section, with its bytes in the file and its relocations in the order of their tables
 pub record Section : Type 0 where
@@ -23,8 +32,10 @@ pub record Symbol : Type 0 where
   pub index : SymbolIndex
   pub value : ℕ
 
--- an object: sections and symbols by their numbers, and the number of the symbol table's section, 0 where there is none
+-- an object: whether it may have instructions of 2 bytes, its sections and symbols by their numbers, and the number of
+-- the symbol table's section, 0 where there is none
 pub record Object : Type 0 where
+  pub compressed : Bool
   pub sections : List Section
   pub symbols : List Symbol
   pub symbol_table : ℕ

@@ -4,7 +4,7 @@ use Rattle.std.specs.Prelude.{ℕ, ◌+◌, ◌*◌, ◌/◌, ◌%◌, nat_lt, n
 use Rattle.std.specs.Int.{is_power_of_two}
 use Rattle.std.specs.List.{starts_with}
 use Rattle.elf_objects.specs.Fields.{word_16, word_32}
-use Rattle.elf_objects.specs.Headers.{identification, table_at, section_count, name_section, header_of}
+use Rattle.elf_objects.specs.Headers.{identification, file_flags, table_at, section_count, name_section, header_of}
 use Rattle.elf_objects.specs.Contents.{lies_past, bytes_of, has_name, section_names}
 use Rattle.elf_objects.specs.Sections.{has_flag, is_unwinding, is_loaded, is_symbol_table}
 use Rattle.elf_objects.specs.Symbols.{symbol_names, symbol_entry, symbol_count, index_of}
@@ -26,7 +26,7 @@ is_wrong_kind b = not (word_16 b 16 == 1) || not (word_16 b 18 == 243) || not (w
 
 -- 3 WrongFlags: other flags than RVE, which is 8
 abbrev pub has_wrong_flags : List ℕ → Bool
-has_wrong_flags b = not (word_32 b 48 == 8)
+has_wrong_flags b = not (file_flags b == 8)
 
 -- 4 BadTable, in the header: section headers of another size than 64, none of them, or some of them past the file
 abbrev pub is_table_missing : List ℕ → Bool

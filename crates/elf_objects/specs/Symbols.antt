@@ -96,3 +96,5 @@ pub record HasTables (b names : List ℕ) (table : Option ℕ) (entries entry_na
   pub holds : entries ≡ symbol_bytes b
   pub within : length entries ≤ length b
   pub entries_named : entry_names ≡ symbol_names b
+  pub names_within : length names ≤ length b
+  pub entry_names_within : length entry_names ≤ length b

@@ -16,6 +16,30 @@ pub struct Fault {
     pub offset: u64,
 }
 
+/// The code of a file that isn't ELF of 64 bits with the lowest byte first.
+pub const NOT_ELF: u8 = 1;
+
+/// The code of a file that isn't a relocatable object for RISC-V.
+pub const WRONG_KIND: u8 = 2;
+
+/// The code of an object that isn't for RV64EM.
+pub const WRONG_FLAGS: u8 = 3;
+
+/// The code of a table of the file that isn't whole.
+pub const BAD_TABLE: u8 = 4;
+
+/// The code of a section or symbol without a name.
+pub const BAD_NAME: u8 = 5;
+
+/// The code of a symbol that isn't valid.
+pub const BAD_SYMBOL: u8 = 6;
+
+/// The code of a relocation that isn't valid.
+pub const BAD_RELOCATION: u8 = 7;
+
+/// The code of a section of a form that isn't supported.
+pub const UNSUPPORTED_SECTION: u8 = 8;
+
 /// The code of a form that isn't built yet.
 pub const NOT_BUILT: u8 = 63;
 

@@ -2,10 +2,11 @@ ghost use Rattle.std.specs.Prelude.{◌≡◌, ◌≤◌, ◌<◌, ◌+◌, ◌*
 ghost use Rattle.std.specs.Result.{result_err};
 ghost use Rattle.elf_objects.specs.Headers.{header_of, HasTable, name_section, section_count, table_at};
 ghost use Rattle.elf_objects.specs.Rules.{is_not_elf, is_wrong_kind, has_wrong_flags, is_table_missing, are_names_missing};
+ghost use Rattle.elf_objects.specs.FileObject.{is_compressed};
 ghost use Rattle.elf_objects.specs.Faults.{refusal};
 ghost use Rattle.elf_objects.specs.FirstFaults.{header_refusal};
 
-use crate::fault::Refusal;
+use crate::fault::{BAD_TABLE, NOT_ELF, Refusal, WRONG_FLAGS, WRONG_KIND};
 use crate::little_endian::{read_16, read_32, read_64};
 use crate::section_header::{HEADER_LEN, STRTAB, SectionHeader, read_header};
 
@@ -52,6 +53,9 @@ const RISCV: u16 = 243;
 /// The version of the format.
 const CURRENT: u32 = 1;
 
+/// The flag of objects that may have instructions of 2 bytes.
+const RVC: u32 = 1;
+
 /// The flag of objects for the registers of RV64E.
 const RVE: u32 = 8;
 
@@ -67,25 +71,32 @@ impl<'a> File<'a> {
         ensures lends { IfOk result (λ file. file.bytes.now ≡ bytes.now) }
     {
         if is_not_elf(bytes) {
-            return Err(of_file(1));
+            return Err(of_file(NOT_ELF));
         }
         if is_wrong_kind(bytes) {
-            return Err(of_file(2));
+            return Err(of_file(WRONG_KIND));
         }
         if has_wrong_flags(bytes) {
-            return Err(of_file(3));
+            return Err(of_file(WRONG_FLAGS));
         }
         if is_table_missing(bytes) {
-            return Err(of_file(4));
+            return Err(of_file(BAD_TABLE));
         }
         if are_names_missing(bytes) {
-            return Err(of_file(4));
+            return Err(of_file(BAD_TABLE));
         }
         Ok(File {
             bytes,
             table: read_64(bytes, TABLE_AT) as usize,
             count: u32::from(read_16(bytes, COUNT_AT)),
         })
+    }
+
+    /// Whether the file may have instructions of 2 bytes: its flags have RVC.
+    pub fn is_compressed(&self) -> bool
+        ensures { result ≡ is_compressed self.now.bytes.now }
+    {
+        read_32(self.bytes, FLAGS_AT) & RVC != 0
     }
 
     /// The number of the section with the names of sections.

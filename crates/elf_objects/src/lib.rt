@@ -8,6 +8,7 @@
 mod fault;
 mod file;
 mod little_endian;
+mod name_index;
 mod name_rules;
 mod object;
 mod objects;
@@ -23,7 +24,10 @@ mod symbol_entry;
 mod symbol_rules;
 mod tables;
 
-pub use fault::{Fault, NOT_BUILT, ObjectFault};
+pub use fault::{
+    BAD_NAME, BAD_RELOCATION, BAD_SYMBOL, BAD_TABLE, Fault, NOT_BUILT, NOT_ELF, ObjectFault,
+    UNSUPPORTED_SECTION, WRONG_FLAGS, WRONG_KIND,
+};
 pub use object::Object;
 pub use objects::Objects;
 pub use parts::{Binding, Relocation, Section, SectionKind, Symbol, SymbolIndex};

@@ -3,7 +3,7 @@ ghost use Rattle.std.specs.Result.{result_err};
 ghost use Rattle.elf_objects.specs.Headers.{section_count};
 ghost use Rattle.elf_objects.specs.FirstFaults.{in_sections, symbol_name_refusal, name_refusal};
 
-use crate::fault::Refusal;
+use crate::fault::{BAD_NAME, Refusal};
 use crate::tables::Tables;
 
 /// The first name of a section or symbol that isn't there, by section.
@@ -25,7 +25,7 @@ fn check_name(tables: &Tables<'_>, section: u32) -> Result<(), Refusal>
 {
     if !tables.names.has_name(tables.file.header(section).name) {
         return Err(Refusal {
-            code: 5,
+            code: BAD_NAME,
             section,
             offset: 0,
         });
@@ -44,7 +44,7 @@ fn check_symbol_names(tables: &Tables<'_>, section: u32) -> Result<(), Refusal>
     for at in 0..tables.entry_count() {
         if !tables.entry_names.has_name(tables.entry(at).name) {
             return Err(Refusal {
-                code: 5,
+                code: BAD_NAME,
                 section,
                 offset: u64::from(at),
             });

@@ -25,8 +25,8 @@ impl<'a> Model for Object<'a> {
 }
 
 impl<'a> Object<'a> {
-    /// Reads the object with a number in the link. The file has at most 2^24 bytes. It is gone through a few times, and
-    /// nothing of it is copied: an object holds less than 100 bytes for each section.
+    /// Reads the object with a number in the link. The file has at most 2^24 bytes. It is read a few times, and nothing
+    /// of it is copied: an object takes less than 100 bytes for each section, and a sixteenth of its names.
     ///
     /// # Errors
     /// `Bad` with the first fault of the file, of code 1 to 8, exactly where it has one; and `Memory`, also where
@@ -40,6 +40,13 @@ impl<'a> Object<'a> {
         Ok(Object {
             file: SoundFile::read(alloc, bytes, index)?,
         })
+    }
+
+    /// Whether the object may have instructions of 2 bytes: its flags have RVC.
+    pub fn compressed(&self) -> bool
+        ensures { result ≡ self.now.compressed }
+    {
+        self.file.compressed()
     }
 
     /// How many sections there are.

@@ -1,3 +1,6 @@
+ghost use Rattle.std.specs.Prelude.{◌≡◌};
+ghost use Rattle.elf_objects.specs.Objects.{is_loaded_kind};
+
 /// What a section is to a link.
 #[derive(Clone, Copy, Debug, PartialEq, Eq)]
 pub enum SectionKind {
@@ -11,6 +14,15 @@ pub enum SectionKind {
     Zero,
     /// A section that takes no part in the program.
     Unloaded,
+}
+
+impl SectionKind {
+    /// Whether a section of this kind takes part in the program.
+    pub fn is_loaded(self) -> bool
+        ensures { result ≡ is_loaded_kind self }
+    {
+        !matches!(self, SectionKind::Unloaded)
+    }
 }
 
 /// A section, which lends its name and content from the file (gABI, "Sections").

@@ -4,7 +4,7 @@ ghost use Rattle.elf_objects.specs.Headers.{section_count};
 ghost use Rattle.elf_objects.specs.Rules.{is_bad_relocation};
 ghost use Rattle.elf_objects.specs.FirstFaults.{in_sections, entries_refusal, relocation_refusal};
 
-use crate::fault::Refusal;
+use crate::fault::{BAD_RELOCATION, Refusal};
 use crate::parts::Relocation;
 use crate::relocation_entry::{RELA_LEN, read_relocation, width};
 use crate::section_header::content;
@@ -55,7 +55,7 @@ fn check_entries(
     for at in 0..entries.len() / RELA_LEN {
         if is_bad_relocation(tables, target, &read_relocation(entries, RELA_LEN * at)) {
             return Err(Refusal {
-                code: 7,
+                code: BAD_RELOCATION,
                 section,
                 offset: at as u64,
             });

@@ -4,7 +4,7 @@ ghost use Rattle.elf_objects.specs.Headers.{section_count};
 ghost use Rattle.elf_objects.specs.Rules.{is_string_table, has_entries, is_bad_symbol_table, is_bad_rela, is_bad_align, is_bad_section, is_unknown_form, is_unsupported};
 ghost use Rattle.elf_objects.specs.FirstFaults.{in_sections, table_refusal, form_refusal};
 
-use crate::fault::Refusal;
+use crate::fault::{BAD_TABLE, Refusal, UNSUPPORTED_SECTION};
 use crate::section_header::{
     ALLOC, COMPRESSED, EXECINSTR, GROUP, NOBITS, NOTE, NULL, PROGBITS, REL, RELA, STRTAB, SYMTAB,
     SYMTAB_SHNDX, SectionHeader, TLS, WRITE, lies_past,
@@ -25,7 +25,7 @@ pub fn check_tables(tables: &Tables<'_>) -> Result<(), Refusal>
     for section in 0..tables.file.count {
         if is_bad_section(tables, section) {
             return Err(Refusal {
-                code: 4,
+                code: BAD_TABLE,
                 section,
                 offset: 0,
             });
@@ -42,7 +42,7 @@ pub fn check_supported(tables: &Tables<'_>) -> Result<(), Refusal>
     for section in 0..tables.file.count {
         if is_unsupported(tables, section) {
             return Err(Refusal {
-                code: 8,
+                code: UNSUPPORTED_SECTION,
                 section,
                 offset: 0,
             });

@@ -1,5 +1,5 @@
-ghost use Rattle.std.specs.Prelude.{◌≡◌, ◌≤◌, ℕ, length, ◌==◌, position, IfSome};
-ghost use Rattle.elf_objects.specs.Contents.{has_name, name_begins, name_at, EndsNames};
+ghost use Rattle.std.specs.Prelude.{◌≡◌};
+ghost use Rattle.elf_objects.specs.Contents.{has_name, name_begins, EndsNames};
 
 /// A string table, with the place behind its last 00: names begin below it (gABI, "String Table").
 #[derive(Clone, Copy, Debug)]
@@ -34,25 +34,4 @@ impl<'a> StringTable<'a> {
     {
         self.has_name(at) && self.bytes[at as usize..].starts_with(word)
     }
-
-    /// The name at a place.
-    #[tactic(auto, unfolding(crate::specs::Contents::name_at))]
-    pub fn name(&self, at: u32) -> &'a [u8]
-        ensures { result.now ≡ name_at self.now.bytes.now at }
-    {
-        let at = at as usize;
-        if self.bytes.len() <= at {
-            return &[];
-        }
-        let rest = &self.bytes[at..];
-        &rest[..first_zero(rest).unwrap_or(rest.len())]
-    }
-}
-
-/// The place of the first 00.
-fn first_zero(rest: &[u8]) -> Option<usize>
-    ensures position { result ≡ position (λ b. b == 0) rest.now }
-    ensures within { IfSome result (λ len. len ≤ length rest.now) }
-{
-    rest.iter().position(|b| *b == 0)
 }

@@ -4,7 +4,7 @@ ghost use Rattle.elf_objects.specs.Symbols.{symbol_entry_count};
 ghost use Rattle.elf_objects.specs.Rules.{is_bad_symbol, is_out_of_range};
 ghost use Rattle.elf_objects.specs.FirstFaults.{in_sections, symbol_refusal};
 
-use crate::fault::Refusal;
+use crate::fault::{BAD_SYMBOL, Refusal};
 use crate::parts::SymbolIndex;
 use crate::symbol_entry::index_of;
 use crate::tables::Tables;
@@ -37,7 +37,7 @@ fn check_symbols_of(tables: &Tables<'_>, section: u32) -> Result<(), Refusal>
     for at in 0..tables.entry_count() {
         if is_bad_symbol(tables, at) {
             return Err(Refusal {
-                code: 6,
+                code: BAD_SYMBOL,
                 section,
                 offset: u64::from(at),
             });

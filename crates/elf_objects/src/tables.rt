@@ -2,12 +2,13 @@ ghost use Rattle.std.specs.Prelude.{◌≡◌, ◌≤◌, ◌<◌, length, IfSom
 ghost use Rattle.elf_objects.specs.Headers.{section_count};
 ghost use Rattle.elf_objects.specs.Contents.{name_begins, section_names};
 ghost use Rattle.elf_objects.specs.Sections.{loaded_kind, section_kind, symbol_table, is_loaded, is_symbol_table};
-ghost use Rattle.elf_objects.specs.Symbols.{HasTables, bytes_of_some, bytes_of_link, symbol_entry_count, symbol_entry, symbol_count, symbol_at};
+ghost use Rattle.elf_objects.specs.Symbols.{HasTables, symbol_names, bytes_of_some, bytes_of_link, symbol_entry_count, symbol_entry, symbol_count, symbol_at};
 ghost use Rattle.elf_objects.specs.Relocations.{is_rela};
 ghost use Rattle.elf_objects.specs.FileObject.{section_of};
 ghost use Rattle.elf_objects.specs.Objects.{ShowsSection, ShowsSymbol};
 
 use crate::file::File;
+use crate::name_index::NameIndex;
 use crate::parts::{Binding, Section, SectionKind, Symbol, SymbolIndex};
 use crate::section_header::{
     ALLOC, EXECINSTR, NOBITS, NULL, PROGBITS, RELA, SYMTAB, SectionHeader, WRITE, content,
@@ -116,15 +117,16 @@ impl<'a> Tables<'a> {
         }
     }
 
-    /// A section.
+    /// A section, by the index of the names of sections.
     #[tactic(auto, unfolding(crate::specs::FileObject::section_of))]
-    pub fn section(&self, at: u32) -> Section<'a>
-        requires { at < section_count self.now.file.bytes.now }
+    pub fn section(&self, names: &NameIndex<'a>, at: u32) -> Section<'a>
+        requires names { names.now.bytes.now ≡ section_names self.now.file.bytes.now }
+        requires at { at < section_count self.now.file.bytes.now }
         ensures { ShowsSection result (section_of self.now.file.bytes.now at) }
     {
         let header = self.file.header(at);
         Section {
-            name: self.names.name(header.name),
+            name: names.name(header.name),
             kind: self.kind(at),
             size: header.size,
             align: if header.align == 0 { 1 } else { header.align },
@@ -147,10 +149,11 @@ impl<'a> Tables<'a> {
         }
     }
 
-    /// A symbol.
+    /// A symbol, by the index of the names of symbols.
     #[tactic(auto, unfolding(crate::specs::Symbols::symbol_at, crate::specs::Symbols::symbol_count))]
-    pub fn symbol(&self, at: u32) -> Symbol<'a>
-        requires { at < symbol_count self.now.file.bytes.now }
+    pub fn symbol(&self, names: &NameIndex<'a>, at: u32) -> Symbol<'a>
+        requires names { names.now.bytes.now ≡ symbol_names self.now.file.bytes.now }
+        requires at { at < symbol_count self.now.file.bytes.now }
         ensures { ShowsSymbol result (symbol_at self.now.file.bytes.now at) }
     {
         if self.symbols.is_none() {
@@ -163,7 +166,7 @@ impl<'a> Tables<'a> {
         }
         let entry = self.entry(at);
         Symbol {
-            name: self.entry_names.name(entry.name),
+            name: names.name(entry.name),
             binding: binding_of(entry.info),
             index: index_of(entry.index),
             value: entry.value,
@@ -214,7 +217,8 @@ fn symbol_entries<'a>(file: &File<'a>, symbols: Option<u32>) -> &'a [u8]
 /// The bytes of the section, if there is one, to which a symbol table links.
 fn symbol_names<'a>(file: &File<'a>, symbols: Option<u32>) -> &'a [u8]
     requires { IfSome symbols (λ section. section < section_count file.now.bytes.now) }
-    ensures { result.now ≡ bytes_of_link file.now.bytes.now symbols }
+    ensures bytes { result.now ≡ bytes_of_link file.now.bytes.now symbols }
+    ensures within { length result.now ≤ length file.now.bytes.now }
 {
     let Some(section) = symbols else {
         return &[];

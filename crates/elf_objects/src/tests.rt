@@ -5,8 +5,11 @@ use std::alloc::{AllocError, Global};
 use std::process::Abort;
 use std::test::*;
 
-/// The section headers of the object: name, type, flags, offset, size, link, info, alignment, entry size.
-const HEADERS: [(u32, u32, u64, u64, u64, u32, u32, u64, u64); 10] = [
+/// A section header: name, type, flags, offset, size, link, info, alignment, entry size.
+type Header = (u32, u32, u64, u64, u64, u32, u32, u64, u64);
+
+/// The section headers of the object.
+const HEADERS: [Header; 10] = [
     (0, 0, 0, 0, 0, 0, 0, 0, 0),
     (1, 1, 6, 704, 8, 0, 0, 4, 0), // .text
     (7, 1, 3, 712, 8, 0, 0, 8, 0), // .data
@@ -31,6 +34,8 @@ const TYPE: usize = 4;
 
 const FLAGS: usize = 8;
 
+const OFFSET: usize = 24;
+
 const SIZE: usize = 32;
 
 const LINK: usize = 40;
@@ -54,17 +59,7 @@ const RELOCATION_SYMBOL: usize = 12;
 /// The object: the headers of file and sections, and the contents of the sections in their order.
 fn object_bytes(alloc: Global) -> Result<Vec<u8>, AllocError> {
     let mut out = Vec::new(alloc);
-    out.extend_from_slice(b"\x7fELF\x02\x01\x01\0\0\0\0\0\0\0\0\0")?;
-    put_16(1, &mut out)?;
-    put_16(243, &mut out)?;
-    put_32(1, &mut out)?;
-    put_64(0, &mut out)?;
-    put_64(0, &mut out)?;
-    put_64(64, &mut out)?;
-    put_32(8, &mut out)?;
-    for number in [64u16, 0, 0, 64, 10, 8] {
-        put_16(number, &mut out)?;
-    }
+    put_file_header(10, 8, &mut out)?;
     put_headers(&mut out)?;
     out.extend_from_slice(&[0x13, 0x05, 0x50, 0, 0x67, 0x80, 0, 0])?;
     out.extend_from_slice(&[1, 2, 3, 4, 5, 6, 7, 8])?;
@@ -80,20 +75,41 @@ fn object_bytes(alloc: Global) -> Result<Vec<u8>, AllocError> {
     Ok(out)
 }
 
-fn put_headers(out: &mut Vec<u8>) -> Result<(), AllocError> {
-    for (name, kind, flags, offset, size, link, info, align, entry_size) in HEADERS {
-        put_32(name, out)?;
-        put_32(kind, out)?;
-        put_64(flags, out)?;
-        put_64(0, out)?;
-        put_64(offset, out)?;
-        put_64(size, out)?;
-        put_32(link, out)?;
-        put_32(info, out)?;
-        put_64(align, out)?;
-        put_64(entry_size, out)?;
+/// The header of a file with so many sections behind it, of which one has the names of sections.
+fn put_file_header(count: u16, names: u16, out: &mut Vec<u8>) -> Result<(), AllocError> {
+    out.extend_from_slice(b"\x7fELF\x02\x01\x01\0\0\0\0\0\0\0\0\0")?;
+    put_16(1, out)?;
+    put_16(243, out)?;
+    put_32(1, out)?;
+    put_64(0, out)?;
+    put_64(0, out)?;
+    put_64(64, out)?;
+    put_32(8, out)?;
+    for number in [64u16, 0, 0, 64, count, names] {
+        put_16(number, out)?;
     }
     Ok(())
+}
+
+fn put_headers(out: &mut Vec<u8>) -> Result<(), AllocError> {
+    for header in HEADERS {
+        put_header(header, out)?;
+    }
+    Ok(())
+}
+
+fn put_header(header: Header, out: &mut Vec<u8>) -> Result<(), AllocError> {
+    let (name, kind, flags, offset, size, link, info, align, entry_size) = header;
+    put_32(name, out)?;
+    put_32(kind, out)?;
+    put_64(flags, out)?;
+    put_64(0, out)?;
+    put_64(offset, out)?;
+    put_64(size, out)?;
+    put_32(link, out)?;
+    put_32(info, out)?;
+    put_64(align, out)?;
+    put_64(entry_size, out)
 }
 
 fn put_relocation(
@@ -214,6 +230,8 @@ fn reads_sections(rt: HostRuntime) -> Result<(), Fail> {
     assert_eq!(rt; file.len(), 967);
     let object = Object::read(rt.alloc(), &file, 0)?;
     assert_eq!(rt; object.sections(), 10);
+    assert!(rt; !object.compressed());
+    assert!(rt; SectionKind::Zero.is_loaded() && !SectionKind::Unloaded.is_loaded());
     expect_section(&rt, &object, 0, b"", SectionKind::Unloaded, (0, 1, 0, 0));
     expect_section(&rt, &object, 1, b".text", SectionKind::Code, (8, 4, 8, 3));
     expect_section(
@@ -277,6 +295,50 @@ fn reads_sections(rt: HostRuntime) -> Result<(), Fail> {
         object.section(2).content,
         [1, 2, 3, 4, 5, 6, 7, 8].as_slice()
     );
+    Ok(())
+}
+
+#[test]
+fn reads_long_names(rt: HostRuntime) -> Result<(), Fail> {
+    // the names of sections, now at 967, go on with 150 times n and then with m
+    let edits = [
+        (field(8, OFFSET), 0xc7),
+        (field(8, SIZE), 222),
+        (field(7, NAME), 69),
+        (field(6, NAME), 69 + 64),
+        (field(5, NAME), 220),
+    ];
+    let mut file = edited(&rt, rt.alloc(), &edits)?;
+    file.extend_from_slice(SECTION_NAMES)?;
+    file.extend_from_slice(&[b'n'; 150])?;
+    file.extend_from_slice(b"\0m\0")?;
+    assert_eq!(rt; file.len(), 967 + 222);
+    let object = Object::read(rt.alloc(), &file, 0)?;
+    assert_eq!(rt; object.sections(), 10);
+    assert_eq!(rt; object.section(7).name, [b'n'; 150].as_slice());
+    assert_eq!(rt; object.section(6).name, [b'n'; 86].as_slice());
+    assert_eq!(rt; object.section(5).name, b"m".as_slice());
+    assert_eq!(rt; object.section(1).name, b".text".as_slice());
+    Ok(())
+}
+
+#[test]
+fn refuses_too_many_relocations(rt: HostRuntime) -> Result<(), Fail> {
+    // 4,096 RELA sections share 4,097 entries, which like all other bytes of sections are zeros
+    let at = 64 + 64 * 4100;
+    let mut file = Vec::new(rt.alloc());
+    put_file_header(4100, 3, &mut file)?;
+    put_header((0, 0, 0, 0, 0, 0, 0, 0, 0), &mut file)?;
+    put_header((0, 1, 6, at, 8, 0, 0, 4, 0), &mut file)?;
+    put_header((0, 2, 0, at, 24, 3, 1, 8, 24), &mut file)?;
+    put_header((0, 3, 0, at, 1, 0, 0, 1, 0), &mut file)?;
+    for _ in 0..4096 {
+        put_header((0, 4, 0, at, 24 * 4097, 2, 1, 8, 24), &mut file)?;
+    }
+    file.extend_from_slice(vec![in rt.alloc(); 0u8; 24 * 4097]?.as_slice())?;
+    assert!(rt; file.len() < 500_000);
+    let read = Object::read(rt.alloc(), &file, 0);
+    assert!(rt; matches!(read, Err(ObjectFault::Memory)));
     Ok(())
 }
 

@@ -1,11 +1,10 @@
 -- How the answers to names are collected, name by name of the table.
-use Rattle.std.proofs.Common.{◌≡◌, ℕ, ◌+◌, ◌<◌, Bool, true, false, ◌||◌, cond, List, [], ◌∷◌, ◌++◌, length, take, slice_get, Option, Some, None, refl, sym, ◌∙◌, ap, if◌then◌else◌}
+use Rattle.std.proofs.Common.{◌≡◌, ℕ, ◌+◌, ◌<◌, Bool, true, false, ◌||◌, cond, List, [], ◌∷◌, ◌++◌, length, take, slice_get, Option, Some, None, IsSomeAnd, refl, sym, ◌∙◌, ap, if◌then◌else◌}
 use Rattle.std.specs.Map.{lookup}
 use Rattle.std.specs.Cmp.Lexicographic.{same_text}
 use Rattle.std.proofs.lemmas.List.{take_more}
 use Rattle.std.proofs.lemmas.List.Folds.{list_any-append}
 use Rattle.std.proofs.lemmas.Option.{get_or_from_slice_get, slice_get_within}
-use Rattle.indexmap.specs.IndexMap.{insert_entry}
 use Rattle.faults.specs.First.{◌or_else◌}
 use Rattle.symbols.specs.declared.names.Meaning.{Meaning}
 use Rattle.symbols.specs.declared.place.Answer.{Answer}
@@ -13,8 +12,7 @@ use Rattle.symbols.specs.Parts.{same}
 use Rattle.symbols.specs.Wanted.{Given, import_of}
 use Rattle.symbols.specs.Resolution.{name_place, definition_or_import, answer_at, answer_of}
 use Rattle.symbols.specs.Names.{HoldsMeanings, meaning_in}
-use Rattle.symbols.specs.Rows.{AddsAnswer, HasAnswers, HasAnswersAmong, is_among}
-use Rattle.symbols.proofs.Lookups.{lookup-insert_entry}
+use Rattle.symbols.specs.Rows.{AddsAnswer, SetsAnswer, HasAnswers, HasAnswersAmong, is_among}
 use Rattle.symbols.proofs.Standing.{is_meaning}
 
 or_else-same : {A : Type 0} (o : Option A) → (o or_else o) ≡ o
@@ -29,9 +27,9 @@ same_answer : (given : Given) (name other : List ℕ) → same name other ≡ tr
 same_answer given name other e = ap (answer_of given) (same_text name other (sym e))
 
 -- where the name has an answer
-pub AddsAnswer-some : (given : Given) (other : List ℕ) (old new : List (List ℕ × Answer)) (answer : Answer) → answer_of given other ≡ Some answer → new ≡ insert_entry same old other answer → AddsAnswer given other old new
+pub AddsAnswer-some : (given : Given) (other : List ℕ) (old new : List (List ℕ × Answer)) (answer : Answer) → answer_of given other ≡ Some answer → SetsAnswer other answer old new → AddsAnswer given other old new
 AddsAnswer-some given other old new answer has is name =
-    ap (lookup (same name)) is ∙ lookup-insert_entry old name other answer ∙ by (same name other) refl
+    is name ∙ by (same name other) refl
   where
     by : (b : Bool) → same name other ≡ b → (if b then Some answer else lookup (same name) old) ≡ (if b then answer_of given name or_else lookup (same name) old else lookup (same name) old)
     by true e = sym (ap (λ o. o or_else lookup (same name) old) (same_answer given name other e ∙ has))
@@ -57,7 +55,7 @@ is_among-more names at e name here =
     or-false false = refl
 
 -- one more name
-pub HasAnswersAmong-more : (given : Given) (names : List (List ℕ × Meaning)) (at : ℕ) (e : List ℕ × Meaning) (old new : List (List ℕ × Answer)) → slice_get names at ≡ Some e
+HasAnswersAmong-more : (given : Given) (names : List (List ℕ × Meaning)) (at : ℕ) (e : List ℕ × Meaning) (old new : List (List ℕ × Answer)) → slice_get names at ≡ Some e
     → HasAnswersAmong given (take at names) old → AddsAnswer given e.0 old new → HasAnswersAmong given (take (at + 1) names) new
 HasAnswersAmong-more given names at e old new here before step name =
     step name ∙ by (same name e.0) (is_among (take at names) name) (before name) ∙ ap (λ b. if b then answer_of given name else None) (sym (is_among-more names at e name here))
@@ -68,6 +66,14 @@ HasAnswersAmong-more given names at e old new here before step name =
     by true false has = rw has (or_else-None (answer_of given name))
     by false true has = has
     by false false has = has
+
+pub HasAnswersAmong-next : (given : Given) (names : List (List ℕ × Meaning)) (at : ℕ) (other : List ℕ) (old new : List (List ℕ × Answer)) → IsSomeAnd (slice_get names at) (λ e. e.0 ≡ other)
+    → HasAnswersAmong given (take at names) old → AddsAnswer given other old new → HasAnswersAmong given (take (at + 1) names) new
+HasAnswersAmong-next given names at other old new here before step = by (slice_get names at) refl here
+  where
+    by : (o : Option (List ℕ × Meaning)) → slice_get names at ≡ o → IsSomeAnd o (λ e. e.0 ≡ other) → HasAnswersAmong given (take (at + 1) names) new
+    by None is named = absurd named
+    by (Some e) is named = HasAnswersAmong-more given names at e old new is before (rw named step)
 
 -- a name that isn't among these has no meaning there
 unknown : (names : List (List ℕ × Meaning)) (name : List ℕ) → is_among names name ≡ false → meaning_in names name ≡ None

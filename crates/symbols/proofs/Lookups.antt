@@ -1,13 +1,16 @@
--- What a table of names has for a name, as it is made of the entries of a map and as names are added.
+-- What a table of names has for a name, as it is made of the entries of an ordered map and as names are added.
 use Rattle.std.proofs.Common.{◌≡◌, ℕ, Bool, true, false, cond, List, [], ◌∷◌, ◌++◌, map, Option, Some, None, is_some, refl, sym, ◌∙◌, ap, if◌then◌else◌}
 use Rattle.std.specs.Map.{lookup}
-use Rattle.std.specs.Cmp.Lexicographic.{same_text}
+use Rattle.std.specs.Cmp.Lexicographic.{same_text, slice_cmp, texts_ties}
 use Rattle.std.proofs.lemmas.Cmp.{nat_list_eq_equiv}
-use Rattle.indexmap.specs.IndexMap.{insert_entry}
+use Rattle.std.specs.BTreeMap.{insert_entry}
+use Rattle.std.specs.Ordering.{is_eq, match_ordering, nat_cmp}
+use Rattle.std.specs.declared.cmp.Ordering.{Ordering}
+use Rattle.std.specs.declared.cmp.Ordering.TheVariants.{Less, Equal, Greater}
 use Rattle.faults.specs.First.{◌or_else◌, where_true}
 use Rattle.symbols.specs.Parts.{same}
 use Rattle.symbols.specs.declared.names.Meaning.{Meaning}
-use Rattle.symbols.specs.Names.{meaning_in, added}
+use Rattle.symbols.specs.Names.{meaning_in, added, HasSame}
 
 module _ {K L X : Type 0} (f : K → L) where
   -- the entries with their keys seen by f
@@ -22,16 +25,6 @@ module _ {K L X : Type 0} (f : K → L) where
   pub seen_by-append : (es fs : List (K × X)) → seen_by (es ++ fs) ≡ seen_by es ++ seen_by fs
   seen_by-append [] fs = refl
   seen_by-append (e ∷ es) fs = ap (λ l. (f e.0, e.1) ∷ l) (seen_by-append es fs)
-
-  -- an entry is inserted alike
-  pub seen_by-insert_entry : (eq : L → L → Bool) (es : List (K × X)) (k : K) (v : X) → seen_by (insert_entry (λ a b. eq (f a) (f b)) es k v) ≡ insert_entry eq (seen_by es) (f k) v
-  seen_by-insert_entry eq [] k v = refl
-  seen_by-insert_entry eq (e ∷ es) k v = by (eq (f k) (f e.0)) (seen_by-insert_entry eq es k v)
-    where
-      by : (b : Bool) → seen_by (insert_entry (λ a c. eq (f a) (f c)) es k v) ≡ insert_entry eq (seen_by es) (f k) v
-          → seen_by (if b then (e.0, v) ∷ es else e ∷ insert_entry (λ a c. eq (f a) (f c)) es k v) ≡ (if b then (f e.0, v) ∷ seen_by es else (f e.0, e.1) ∷ insert_entry eq (seen_by es) (f k) v)
-      by true rest = refl
-      by false rest = ap (λ l. (f e.0, e.1) ∷ l) rest
 
 pub lookup-append : {K X : Type 0} (test : K → Bool) (es fs : List (K × X)) → lookup test (es ++ fs) ≡ (lookup test es or_else lookup test fs)
 lookup-append test [] fs = refl
@@ -61,31 +54,48 @@ meaning_in-added names name other meaning = by (meaning_in names other) refl
     by (Some m) found = there m (same name other) refl found
     by None found = lookup-append (same name) names ((other, meaning) ∷ [])
 
--- a name that the table doesn't have is added as a map adds it
-pub insert_entry-absent : {X : Type 0} (es : List (List ℕ × X)) (name : List ℕ) (value : X) → lookup (same name) es ≡ None → insert_entry same es name value ≡ es ++ (name, value) ∷ []
-insert_entry-absent [] name value none = refl
-insert_entry-absent (e ∷ es) name value none = by (same name e.0) none (insert_entry-absent es name value)
-  where
-    by : (b : Bool) → cond b (Some e.1) (lookup (same name) es) ≡ None → (lookup (same name) es ≡ None → insert_entry same es name value ≡ es ++ (name, value) ∷ [])
-        → (if b then (e.0, value) ∷ es else e ∷ insert_entry same es name value) ≡ e ∷ es ++ (name, value) ∷ []
-    by true found rest = cc
-    by false found rest = ap (λ l. e ∷ l) (rest found)
+-- a name is compared as it is tested
+tied : {K X : Type 0} (f : K → List ℕ) (name : List ℕ) (es : List (K × X)) → lookup (λ k. is_eq (slice_cmp nat_cmp name (f k))) es ≡ lookup (λ k. same name (f k)) es
+tied f name [] = refl
+tied f name (e ∷ es) = rw (← texts_ties name (f e.0)) (ap (cond (same name (f e.0)) (Some e.1)) (tied f name es))
 
--- what a table has once a name was set
-pub lookup-insert_entry : {X : Type 0} (es : List (List ℕ × X)) (name other : List ℕ) (value : X) → lookup (same name) (insert_entry same es other value) ≡ (if same name other then Some value else lookup (same name) es)
-lookup-insert_entry [] name other value = refl
-lookup-insert_entry (e ∷ es) name other value = by (same other e.0) refl (lookup-insert_entry es name other value)
+-- what an ordered map finds for a name
+pub lookup-ordered : {K X : Type 0} (f : K → List ℕ) (name : List ℕ) (es : List (K × X)) → lookup (λ k. is_eq (slice_cmp nat_cmp name (f k))) es ≡ lookup (same name) (seen_by f es)
+lookup-ordered f name es = tied f name es ∙ sym (lookup-seen_by f (same name) es)
+
+-- and what it finds once a name was inserted
+pub lookup-inserted : {K X : Type 0} (f : K → List ℕ) (es : List (K × X)) (k : K) (value : X) (name : List ℕ)
+    → lookup (same name) (seen_by f (insert_entry (λ a b. slice_cmp nat_cmp (f a) (f b)) es k value)) ≡ (if same name (f k) then Some value else lookup (same name) (seen_by f es))
+lookup-inserted f [] k value name = refl
+lookup-inserted f (e ∷ es) k value name = by (slice_cmp nat_cmp (f k) (f e.0)) (texts_ties (f k) (f e.0)) (lookup-inserted f es k value name)
   where
-    by : (b : Bool) → same other e.0 ≡ b → lookup (same name) (insert_entry same es other value) ≡ (if same name other then Some value else lookup (same name) es)
-        → lookup (same name) (if b then (e.0, value) ∷ es else e ∷ insert_entry same es other value) ≡ (if same name other then Some value else lookup (same name) (e ∷ es))
-    by true is rest = rw (same_text other e.0 (sym is)) (cases (same name e.0))
+    by : (o : Ordering) → same (f k) (f e.0) ≡ is_eq o
+        → lookup (same name) (seen_by f (insert_entry (λ a b. slice_cmp nat_cmp (f a) (f b)) es k value)) ≡ (if same name (f k) then Some value else lookup (same name) (seen_by f es))
+        → lookup (same name) (seen_by f (match_ordering o ((k, value) ∷ e ∷ es) ((e.0, value) ∷ es) (e ∷ insert_entry (λ a b. slice_cmp nat_cmp (f a) (f b)) es k value))) ≡ (if same name (f k) then Some value else lookup (same name) (seen_by f (e ∷ es)))
+    by Less is rest = refl
+    by Equal is rest = rw (same_text (f k) (f e.0) (sym is)) (cases (same name (f e.0)))
       where
-        cases : (c : Bool) → cond c (Some value) (lookup (same name) es) ≡ (if c then Some value else cond c (Some e.1) (lookup (same name) es))
+        cases : (c : Bool) → cond c (Some value) (lookup (same name) (seen_by f es)) ≡ (if c then Some value else cond c (Some e.1) (lookup (same name) (seen_by f es)))
         cases true = refl
         cases false = refl
-    by false is rest = rw rest (cases (same name other) refl (same name e.0) refl)
+    by Greater is rest = rw rest (cases (same name (f k)) refl (same name (f e.0)) refl)
       where
-        cases : (c : Bool) → same name other ≡ c → (d : Bool) → same name e.0 ≡ d → cond d (Some e.1) (if c then Some value else lookup (same name) es) ≡ (if c then Some value else cond d (Some e.1) (lookup (same name) es))
-        cases true one true two = (let k : other ≡ e.0 = sym (same_text name other (sym one)) ∙ same_text name e.0 (sym two) in let h : same other e.0 ≡ true = rw k (nat_list_eq_equiv.refl e.0) in cc)
+        cases : (c : Bool) → same name (f k) ≡ c → (d : Bool) → same name (f e.0) ≡ d
+            → cond d (Some e.1) (if c then Some value else lookup (same name) (seen_by f es)) ≡ (if c then Some value else cond d (Some e.1) (lookup (same name) (seen_by f es)))
+        cases true one true two = (let alike : f k ≡ f e.0 = sym (same_text name (f k) (sym one)) ∙ same_text name (f e.0) (sym two) in let h : same (f k) (f e.0) ≡ true = rw alike (nat_list_eq_equiv.refl (f e.0)) in cc)
         cases true one false two = refl
         cases false one d two = refl
+
+-- a name that neither table has is added to both alike
+pub HasSame-added : (names others after : List (List ℕ × Meaning)) (other : List ℕ) (meaning : Meaning) → HasSame names others → meaning_in names other ≡ None
+    → ((name : List ℕ) → meaning_in after name ≡ (if same name other then Some meaning else meaning_in others name)) → HasSame (names ++ (other, meaning) ∷ []) after
+HasSame-added names others after other meaning h none is =
+    record { same_meaning = λ name. is name ∙ by name (same name other) refl ∙ sym (lookup-append (same name) names ((other, meaning) ∷ [])) }
+  where
+    by : (name : List ℕ) (b : Bool) → same name other ≡ b → (if b then Some meaning else meaning_in others name) ≡ (meaning_in names name or_else cond b (Some meaning) None)
+    by name true e = rw (same-lookup name other names e, none) refl
+    by name false e = rw (h.same_meaning name) (or_else-None (meaning_in names name))
+      where
+        or_else-None : (o : Option Meaning) → o ≡ (o or_else None)
+        or_else-None None = refl
+        or_else-None (Some x) = refl

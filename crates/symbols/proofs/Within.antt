@@ -8,28 +8,27 @@ use Rattle.elf_objects.specs.declared.parts.SymbolIndex.{SymbolIndex}
 use Rattle.elf_objects.specs.declared.parts.SymbolIndex.TheVariants as index
 use Rattle.elf_objects.specs.declared.parts.SectionKind.{SectionKind}
 use Rattle.elf_objects.specs.declared.parts.SectionKind.TheVariants as kinds
-use Rattle.elf_objects.specs.Objects.{Section, Symbol, Object}
+use Rattle.elf_objects.specs.Objects.{Section, Symbol, Object, is_loaded_kind}
 use Rattle.symbols.specs.declared.place.Place.TheVariants.{Number}
 use Rattle.symbols.specs.Parts.{same, object_at, symbol_at, kind_of, kind_at}
 use Rattle.symbols.specs.Wanted.{Given, Wanted, import_of, import_name_at, entry_name_at}
 use Rattle.symbols.specs.Resolution.{resolution, entry_place, Definition, section_place, defined_place, definition_or_import, definition_of, name_place, symbol_place}
-use Rattle.symbols.specs.Faults.{is_loaded}
 use Rattle.symbols.specs.Laws.{HasSection, IsWithin, PlacesAreWithin}
 use Rattle.symbols.proofs.Standing.{first_below-holds, Stands-definition_of}
 
 -- a section that is loaded is there
-has_section : (objects : List Object) (object section : ℕ) → object < length objects → is_loaded (kind_at objects object section) ≡ true → HasSection objects object section
+has_section : (objects : List Object) (object section : ℕ) → object < length objects → is_loaded_kind (kind_at objects object section) ≡ true → HasSection objects object section
 has_section objects object section object_in loaded = by (slice_get (object_at objects object).sections section) refl loaded
   where
-    by : (o : Option Section) → slice_get (object_at objects object).sections section ≡ o → is_loaded (kind_of o) ≡ true → HasSection objects object section
+    by : (o : Option Section) → slice_get (object_at objects object).sections section ≡ o → is_loaded_kind (kind_of o) ≡ true → HasSection objects object section
     by None is l = cc
     by (Some x) is l = record { object_in = object_in; section_in = slice_get_within (object_at objects object).sections section x is }
 
 within_section : (given : Given) (object section offset : ℕ) (kind : SectionKind) → object < length given.objects → kind_at given.objects object section ≡ kind → IsWithin given (section_place kind object section offset)
-within_section given object section offset kinds.Code object_in is = (has_section given.objects object section object_in (ap is_loaded is), is)
-within_section given object section offset kinds.ReadOnly object_in is = (has_section given.objects object section object_in (ap is_loaded is), rw is refl)
-within_section given object section offset kinds.Writable object_in is = (has_section given.objects object section object_in (ap is_loaded is), rw is refl)
-within_section given object section offset kinds.Zero object_in is = (has_section given.objects object section object_in (ap is_loaded is), rw is refl)
+within_section given object section offset kinds.Code object_in is = (has_section given.objects object section object_in (ap is_loaded_kind is), is)
+within_section given object section offset kinds.ReadOnly object_in is = (has_section given.objects object section object_in (ap is_loaded_kind is), rw is refl)
+within_section given object section offset kinds.Writable object_in is = (has_section given.objects object section object_in (ap is_loaded_kind is), rw is refl)
+within_section given object section offset kinds.Zero object_in is = (has_section given.objects object section object_in (ap is_loaded_kind is), rw is refl)
 within_section given object section offset kinds.Unloaded object_in is = tt
 
 within_defined : (given : Given) (object : ℕ) (i : SymbolIndex) (value : ℕ) → object < length given.objects → IsWithin given (defined_place given.objects object i value)

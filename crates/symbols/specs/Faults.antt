@@ -4,12 +4,10 @@ use Rattle.std.specs.List.{list_any}
 use Rattle.faults.specs.Present.{broken, ◌followed_by◌, each_below, first_in}
 use Rattle.elf_objects.specs.declared.fault.Fault.{Fault}
 use Rattle.elf_objects.specs.declared.parts.Binding.TheVariants.{Global}
-use Rattle.elf_objects.specs.declared.parts.SectionKind.{SectionKind}
-use Rattle.elf_objects.specs.declared.parts.SectionKind.TheVariants as kinds
 use Rattle.elf_objects.specs.declared.parts.SymbolIndex.{SymbolIndex}
 use Rattle.elf_objects.specs.declared.parts.SymbolIndex.TheVariants as index
 use Rattle.elf_objects.specs.declared.parts.Relocation.{Relocation}
-use Rattle.elf_objects.specs.Objects.{Section, Object}
+use Rattle.elf_objects.specs.Objects.{Section, Object, is_loaded_kind}
 use Rattle.symbols.specs.declared.place.Place.{Place}
 use Rattle.symbols.specs.declared.place.Place.TheVariants.{Code, Bytes, Unloaded, Import, Number, Absent}
 use Rattle.symbols.specs.declared.fault.SymbolFault.{SymbolFault}
@@ -17,15 +15,8 @@ use Rattle.symbols.specs.declared.fault.SymbolFault.TheVariants.{Bad, Memory}
 use Rattle.symbols.specs.declared.fault.TheConstants.{COMMON, DUPLICATE, UNDEFINED, ENTRY_MISSING, ENTRY_NOT_CODE}
 use Rattle.symbols.specs.declared.named.TheConstants.{NONE, ALIGN, RELAX}
 use Rattle.symbols.specs.Parts.{object_at, symbol_at, symbol_count}
-use Rattle.symbols.specs.Wanted.{Given, entry_name_at, import_of}
+use Rattle.symbols.specs.Wanted.{Given, kept_objects, entry_name_at, import_of}
 use Rattle.symbols.specs.Resolution.{Definition, is_definition, same_binding, is_defined, definition_of, entry_place}
-
-abbrev pub is_loaded : SectionKind → Bool
-is_loaded kinds.Code = true
-is_loaded kinds.ReadOnly = true
-is_loaded kinds.Writable = true
-is_loaded kinds.Zero = true
-is_loaded kinds.Unloaded = false
 
 -- relocations of these kinds change nothing and name nothing (psABI, "Relocations")
 abbrev pub has_effect : ℕ → Bool
@@ -40,7 +31,7 @@ is_named_among relocations number = list_any (names_symbol number) relocations
 
 -- a relocation of the section, where it is loaded, names the symbol
 abbrev pub is_named_in : ℕ → Section → Bool
-is_named_in number section = is_loaded section.kind && is_named_among section.relocations number
+is_named_in number section = is_loaded_kind section.kind && is_named_among section.relocations number
 
 -- a relocation of a loaded section of the object names its symbol with this number
 abbrev pub is_named : Object → ℕ → Bool
@@ -71,7 +62,7 @@ is_unknown given name = is_none (definition_of given name) && is_none (import_of
 abbrev pub is_undefined : Given → ℕ → ℕ → Bool
 is_undefined given object number =
     let symbol = symbol_at given.objects object number in
-    not (nat_eq number 0) && same_binding Global symbol.binding && not (is_defined symbol.index) && is_named (object_at given.objects object) number && is_unknown given symbol.name
+    not (nat_eq number 0) && same_binding Global symbol.binding && not (is_defined symbol.index) && is_named (object_at (kept_objects given) object) number && is_unknown given symbol.name
 
 -- the fault of a symbol: it names the symbol's object, its table's section and its number there
 abbrev pub symbol_fault : Given → ℕ → ℕ → ℕ → Fault
@@ -91,13 +82,13 @@ abbrev pub has_entry : Given → ℕ → Bool
 has_entry given entry = is_some (definition_of given (entry_name_at given.wanted entry))
 
 -- An entry may be at an offset of a Code section that is a multiple of 4.
-abbrev pub may_be_entry : Place → Bool
-may_be_entry (Code object section offset) = nat_eq (offset % 4) 0
-may_be_entry (Bytes object section offset) = false
-may_be_entry Unloaded = false
-may_be_entry (Import at) = false
-may_be_entry (Number number) = false
-may_be_entry Absent = false
+abbrev pub may_be_entry : Given → Place → Bool
+may_be_entry given (Code object section offset) = nat_eq (offset % 4) 0
+may_be_entry given (Bytes object section offset) = false
+may_be_entry given Unloaded = false
+may_be_entry given (Import at) = false
+may_be_entry given (Number number) = false
+may_be_entry given Absent = false
 
 -- the fault of an entry, which names its number
 abbrev pub entry_fault : ℕ → ℕ → Fault
@@ -106,7 +97,7 @@ entry_fault code entry = record { code = code; object = entry; section = 0; offs
 abbrev pub faults_of_entry : Given → ℕ → List Fault
 faults_of_entry given entry =
     broken (not (has_entry given entry)) (entry_fault ENTRY_MISSING entry)
-    followed_by broken (has_entry given entry && not (may_be_entry (entry_place given entry))) (entry_fault ENTRY_NOT_CODE entry)
+    followed_by broken (has_entry given entry && not (may_be_entry given (entry_place given entry))) (entry_fault ENTRY_NOT_CODE entry)
 
 -- all faults of names: those of the symbols by object, symbol and number of the fault, then those of the entries
 unfoldable pub symbol_faults : Given → List Fault

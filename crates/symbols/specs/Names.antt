@@ -19,6 +19,10 @@ meaning_in names name = lookup (same name) names
 abbrev pub added : List (List ℕ × Meaning) → List ℕ → Meaning → List (List ℕ × Meaning)
 added names name meaning = if is_some (meaning_in names name) then names else names ++ (name, meaning) ∷ []
 
+-- two tables have the same for each name
+pub record HasSame (names others : List (List ℕ × Meaning)) : Type 0 where
+  pub same_meaning : (name : List ℕ) → meaning_in others name ≡ meaning_in names name
+
 abbrev pub defined : Definition → Meaning
 defined d = Defined d.object d.number
 

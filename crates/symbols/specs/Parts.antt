@@ -1,5 +1,5 @@
 -- The parts of a link's objects by their numbers. A number that isn't below its count stands for a part that has no effect.
-use Rattle.std.specs.Prelude.{ℕ, List, [], Bool, length, slice_get, unwrap_or, Option, Some, None, nat_eq}
+use Rattle.std.specs.Prelude.{ℕ, List, [], Bool, false, length, slice_get, unwrap_or, Option, Some, None, nat_eq}
 use lib.Pointwise.{pointwise}
 use Rattle.elf_objects.specs.declared.parts.Binding.TheVariants.{Local}
 use Rattle.elf_objects.specs.declared.parts.SymbolIndex.TheVariants.{Undefined}
@@ -12,10 +12,14 @@ abbrev pub same : List ℕ → List ℕ → Bool
 same name other = pointwise nat_eq name other
 
 abbrev pub no_object : Object
-no_object = record { sections = []; symbols = []; symbol_table = 0 }
+no_object = record { compressed = false; sections = []; symbols = []; symbol_table = 0 }
 
 abbrev pub object_at : List Object → ℕ → Object
 object_at objects object = unwrap_or (slice_get objects object) no_object
+
+abbrev pub sections_of : Option Object → List Section
+sections_of None = []
+sections_of (Some object) = object.sections
 
 -- the null symbol, which every symbol table begins with (gABI, "Symbol Table")
 abbrev pub null_symbol : Symbol

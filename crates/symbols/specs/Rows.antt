@@ -1,5 +1,5 @@
 -- The places of all symbols and entries as lists, as they are computed.
-use Rattle.std.specs.Prelude.{◌≡◌, ℕ, zero, suc, List, [], ◌∷◌, ◌++◌, Bool, length, if◌then◌else◌, None}
+use Rattle.std.specs.Prelude.{◌≡◌, ℕ, zero, suc, List, [], ◌∷◌, ◌++◌, Bool, length, if◌then◌else◌, Some, None}
 use Rattle.std.specs.List.{list_any}
 use Rattle.std.specs.Map.{lookup}
 use Rattle.faults.specs.First.{◌or_else◌}
@@ -35,6 +35,10 @@ is_among names name = list_any (λ e. same name e.0) names
 -- these are the answers to the names among those
 abbrev pub HasAnswersAmong : Given → List (List ℕ × Meaning) → List (List ℕ × Answer) → Type 0
 HasAnswersAmong given names answers = (name : List ℕ) → lookup (same name) answers ≡ (if is_among names name then answer_of given name else None)
+
+-- a name has this answer, and other names have what they had
+abbrev pub SetsAnswer : List ℕ → Answer → List (List ℕ × Answer) → List (List ℕ × Answer) → Type 0
+SetsAnswer other answer old new = (name : List ℕ) → lookup (same name) new ≡ (if same name other then Some answer else lookup (same name) old)
 
 -- the answer to a name is added, where it has one
 abbrev pub AddsAnswer : Given → List ℕ → List (List ℕ × Answer) → List (List ℕ × Answer) → Type 0

@@ -1,10 +1,10 @@
 -- What a link is given.
 use Rattle.std.specs.Prelude.{ℕ, ◌<◌, ◌^◌, List, [], length, slice_get, unwrap_or, Option, Some, None}
 use Rattle.faults.specs.First.{where_true, first_below}
-use Rattle.elf_objects.specs.Objects.{Object}
+use Rattle.elf_objects.specs.Objects.{Section, Object}
 use Rattle.symbols.specs.declared.wanted.ImportKind.{ImportKind}
 use Rattle.symbols.specs.declared.wanted.ImportKind.TheVariants.{Host, Sbrk}
-use Rattle.symbols.specs.Parts.{same}
+use Rattle.symbols.specs.Parts.{same, sections_of}
 
 -- an undefined name that the host stands for
 pub record Import : Type 0 where
@@ -24,6 +24,14 @@ pub record Given : Type 0 where
 
 abbrev pub given_of : List Object → Wanted → Given
 given_of objects wanted = record { objects = objects; wanted = wanted }
+
+-- the objects with the sections that are linked: all of them, for now
+abbrev pub kept_objects : Given → List Object
+kept_objects given = given.objects
+
+-- the sections of an object among these
+abbrev pub sections_in : Given → ℕ → List Section
+sections_in given object = sections_of (slice_get (kept_objects given) object)
 
 -- the name of an entry by its number
 abbrev pub entry_name_at : Wanted → ℕ → List ℕ

@@ -1,18 +1,18 @@
-ghost use Rattle.std.specs.Prelude.{◌≡◌, [], nat_eq, OnOk};
+ghost use Rattle.std.specs.Prelude.{◌≡◌, [], OnOk};
 ghost use Rattle.std.specs.Map.{lookup};
-ghost use Rattle.indexmap.specs.IndexMap.{insert_entry};
 ghost use Rattle.symbols.specs.Parts.{same};
+ghost use Rattle.symbols.specs.Rows.{SetsAnswer};
 
 use crate::place::Answer;
-use indexmap::IndexMap;
 use std::alloc::{AllocError, Global};
+use std::collections::BTreeMap;
 use std::marker::Model;
 
-/// The names that stand for a number or an import, with copies of the names.
+/// The names that stand for a number or an import, with copies of the names, found by their order.
 #[derive(Drop)]
 pub(crate) struct Answers {
     alloc: Global,
-    answers: IndexMap<Vec<u8>, Answer>,
+    answers: BTreeMap<Vec<u8>, Answer>,
 }
 
 impl Model for Answers {
@@ -30,7 +30,7 @@ impl Answers {
     {
         Answers {
             alloc,
-            answers: IndexMap::new(alloc),
+            answers: BTreeMap::new(alloc),
         }
     }
 
@@ -43,7 +43,7 @@ impl Answers {
 
     /// Sets what a name stands for.
     pub(crate) fn set(&mut self, name: &[u8], answer: Answer) -> Result<(), AllocError>
-        ensures { OnOk result (self.new ≡ insert_entry same self.old name.now answer) }
+        ensures { OnOk result (SetsAnswer name.now answer self.old self.new) }
     {
         let name = name.to_vec(self.alloc)?;
         self.answers.insert(name, answer)?;

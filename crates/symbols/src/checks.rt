@@ -164,7 +164,7 @@ impl Link<'_, '_> {
     {
         if !self.has_entry(entry) {
             Some(entry_fault(ENTRY_MISSING, entry))
-        } else if !may_be_entry(self.entry_place(entry)) {
+        } else if !self.may_be_entry(self.entry_place(entry)) {
             Some(entry_fault(ENTRY_NOT_CODE, entry))
         } else {
             None
@@ -181,6 +181,16 @@ impl Link<'_, '_> {
             Some(Meaning::Defined { .. })
         )
     }
+
+    /// Whether an entry may be at a place: an offset of instructions that is a multiple of 4.
+    fn may_be_entry(&self, place: Place) -> bool
+        ensures { result ≡ is_entry_place (given_of self.now.objects.now self.now.wanted.now) place }
+    {
+        match place {
+            Place::Code { offset, .. } => offset % 4 == 0,
+            _ => false,
+        }
+    }
 }
 
 /// A fault of an entry.
@@ -192,15 +202,5 @@ fn entry_fault(code: u8, entry: u32) -> Fault
         object: entry,
         section: 0,
         offset: 0,
-    }
-}
-
-/// Whether an entry may be at a place: an offset of instructions that is a multiple of 4.
-fn may_be_entry(place: Place) -> bool
-    ensures { result ≡ is_entry_place place }
-{
-    match place {
-        Place::Code { offset, .. } => offset % 4 == 0,
-        _ => false,
     }
 }

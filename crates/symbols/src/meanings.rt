@@ -12,7 +12,12 @@ use crate::wanted::Wanted;
 use elf_objects::{Binding, Objects, SymbolIndex};
 use std::alloc::{AllocError, Global};
 
-/// The table of what every name means: GLOBAL definitions go before WEAK ones, and both before imports.
+/// The most bytes that the names of GLOBAL and WEAK symbols may have together. Names that share bytes count each for
+/// itself. Files of 2^26 bytes hold less than a quarter of this without sharing.
+const MAX_NAME_BYTES: u64 = 1 << 28;
+
+/// The table of what every name means: GLOBAL definitions go before WEAK ones, and both before imports. More than
+/// `MAX_NAME_BYTES` are refused as memory is.
 pub(crate) fn meanings<'l>(
     alloc: Global,
     objects: &'l Objects<'_>,
@@ -20,6 +25,9 @@ pub(crate) fn meanings<'l>(
 ) -> Result<Names<'l>, AllocError>
     ensures { let given : Given = record { objects = objects.now; wanted = wanted.now } in IfOk result (HoldsMeanings given) }
 {
+    if name_bytes(objects) > MAX_NAME_BYTES {
+        return Err(AllocError);
+    }
     let mut names = Names::with_capacity(alloc, most_names(objects, wanted))?;
     add_definitions(&mut names, objects, Binding::Global)?;
     add_definitions(&mut names, objects, Binding::Weak)?;
@@ -34,6 +42,20 @@ fn most_names(objects: &Objects<'_>, wanted: &Wanted) -> usize {
         count = count.saturating_add(count_symbols(objects, object) as usize);
     }
     count
+}
+
+/// How many bytes the names of GLOBAL and WEAK symbols have together.
+fn name_bytes(objects: &Objects<'_>) -> u64 {
+    let mut bytes: u64 = 0;
+    for object in 0..objects.len() {
+        for number in 0..count_symbols(objects, object) {
+            let symbol = symbol_of(objects, object, number);
+            if !has_binding(Binding::Local, symbol.binding) {
+                bytes = bytes.saturating_add(symbol.name.len() as u64);
+            }
+        }
+    }
+    bytes
 }
 
 /// Adds the first definition with a binding of each name.

@@ -1,10 +1,10 @@
 ghost use Rattle.std.specs.Prelude.{◌≡◌, ◌<◌, length, slice_get, IfOk};
 ghost use Rattle.elf_objects.specs.Objects.{relocations_of};
-ghost use Rattle.symbols.specs.Faults.{is_loaded, has_effect as effect_of, names_symbol, is_named_among, is_named};
+ghost use Rattle.symbols.specs.Faults.{has_effect as effect_of, names_symbol, is_named_among, is_named};
 ghost use Rattle.symbols.specs.Names.{AddsMarks, MarksNamed, is_named_by};
 
 use crate::parts::count_symbols;
-use elf_objects::{Object, Objects, Relocation, SectionKind};
+use elf_objects::{Object, Objects, Relocation};
 use std::alloc::{AllocError, Global};
 
 /// The kind of the relocation that does nothing (psABI, "Relocations").
@@ -44,7 +44,7 @@ fn mark_section(object: &Object<'_>, section: u32, marks: &mut [bool])
     requires { section < length object.now.sections }
     ensures { AddsMarks marks.old marks.new (is_named_by (slice_get object.now.sections section)) }
 {
-    if is_loaded_kind(object.section(section).kind) {
+    if object.section(section).kind.is_loaded() {
         mark_relocations(object, section, marks);
     }
 }
@@ -74,11 +74,4 @@ pub fn has_effect(kind: u32) -> bool
     ensures { result ≡ effect_of kind }
 {
     kind != NONE && kind != ALIGN && kind != RELAX
-}
-
-/// Whether a section of this kind takes part in the program.
-fn is_loaded_kind(kind: SectionKind) -> bool
-    ensures { result ≡ is_loaded kind }
-{
-    !matches!(kind, SectionKind::Unloaded)
 }

@@ -1,8 +1,8 @@
-ghost use Rattle.std.specs.Prelude.{◌≡◌, ◌<◌, [], length, slice_get, Some, IfOk, OnOk};
+ghost use Rattle.std.specs.Prelude.{◌≡◌, ◌<◌, [], length, slice_get, IsSomeAnd, IfOk, OnOk};
 ghost use Rattle.symbols.specs.Names.{meaning_in, added};
 
-use indexmap::IndexMap;
 use std::alloc::{AllocError, Global};
+use std::collections::BTreeMap;
 use std::marker::Model;
 
 /// What a name means, by numbers.
@@ -14,19 +14,25 @@ pub(crate) enum Meaning {
     Imported(u32),
 }
 
-/// A table of names with what each means, in the order of their addition. The names are lent.
+/// A table of names with what each means, in the order of their addition. The names are lent. They are found by their
+/// order, as a file can be made whose names a hash table finds only one by one.
 #[derive(Drop)]
 pub(crate) struct Names<'a> {
-    meanings: IndexMap<&'a [u8], Meaning>,
+    list: Vec<(&'a [u8], Meaning)>,
+    index: BTreeMap<&'a [u8], Meaning>,
 }
 
 impl<'a> Model for Names<'a> {
     ghost use Rattle.std.specs.Prelude.{ℕ, List, map};
+    ghost use Rattle.symbols.specs.Names.{HasSame};
     ghost use Rattle.symbols.specs.declared.names.Meaning.{Meaning as TheMeaning};
 
     ghost Value = { List (List ℕ × TheMeaning) };
 
-    ghost view = { λ n. map (λ e. (e.0.now, e.1)) n.meanings.entries };
+    ghost view = { λ n. map (λ e. (e.0.now, e.1)) n.list.items };
+
+    ghost invariant = { λ n.
+        HasSame (map (λ e. (e.0.now, e.1)) n.list.items) (map (λ e. (e.0.now, e.1)) n.index.entries) };
 }
 
 impl<'a> Names<'a> {
@@ -35,7 +41,8 @@ impl<'a> Names<'a> {
         ensures { IfOk result (λ names. names ≡ []) }
     {
         Ok(Names {
-            meanings: IndexMap::with_capacity(alloc, count)?,
+            list: Vec::with_capacity(alloc, count)?,
+            index: BTreeMap::new(alloc),
         })
     }
 
@@ -43,15 +50,20 @@ impl<'a> Names<'a> {
     pub(crate) fn get(&self, name: &[u8]) -> Option<Meaning>
         ensures { result ≡ meaning_in self.now name.now }
     {
-        self.meanings.get(name).copied()
+        self.index.get(name).copied()
     }
 
     /// Adds a name, unless the table has it.
     pub(crate) fn add(&mut self, name: &'a [u8], meaning: Meaning) -> Result<(), AllocError>
         ensures { OnOk result (self.new ≡ added self.old name.now meaning) }
     {
-        if self.get(name).is_none() {
-            self.meanings.insert(name, meaning)?;
+        if self.get(name).is_some() {
+            return Ok(());
+        }
+        self.list.push((name, meaning))?;
+        if self.index.insert(name, meaning).is_err() {
+            self.list.pop();
+            return Err(AllocError);
         }
         Ok(())
     }
@@ -60,16 +72,14 @@ impl<'a> Names<'a> {
     pub(crate) fn len(&self) -> usize
         ensures { result ≡ length self.now }
     {
-        self.meanings.len()
+        self.list.len()
     }
 
-    /// A name by its number, and what it means.
-    pub(crate) fn entry(&self, at: usize) -> (&'a [u8], Meaning)
+    /// A name by its number.
+    pub(crate) fn name(&self, at: usize) -> &'a [u8]
         requires { at < length self.now }
-        ensures entry { slice_get self.now at ≡ Some (result.0.now, result.1) }
-        ensures meaning { meaning_in self.now result.0.now ≡ Some result.1 }
+        ensures { IsSomeAnd (slice_get self.now at) (λ e. e.0 ≡ result.now) }
     {
-        let (name, meaning) = self.meanings.get_index(at).unwrap();
-        (*name, *meaning)
+        self.list[at].0
     }
 }

@@ -53,8 +53,7 @@ impl Link<'_, '_> {
     {
         let mut answers = Answers::new(alloc);
         for at in 0..self.names.len() {
-            let (name, _) = self.names.entry(at);
-            self.add_answer(&mut answers, name)?;
+            self.add_answer(&mut answers, self.names.name(at))?;
         }
         Ok(answers)
     }

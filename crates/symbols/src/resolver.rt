@@ -13,7 +13,8 @@ use std::alloc::Global;
 /// What every symbol of the objects and every wanted name stands for.
 ///
 /// # Errors
-/// `Bad` exactly where the symbols or the entries have a fault, with the first one, and `Memory`.
+/// `Bad` exactly where the symbols or the entries have a fault, with the first one, and `Memory`, also where names that
+/// share bytes have more than 2^28 bytes together.
 pub fn resolve(
     alloc: Global,
     objects: &Objects<'_>,

@@ -3,7 +3,7 @@ use Rattle.elf_objects.specs.Headers.{header_of}
 use Rattle.elf_objects.specs.Relocations.{entry_count, is_rela}
 use Rattle.elf_objects.proofs.Rows.{indexed-start, indexed-skip, indexed-take, rela-info}
 use Rattle.elf_objects.proofs.sound_file.relocation_rows.Goals as goal
-use Rattle.elf_objects.proofs.sound_file.relocation_rows.Goals.{then-is_rela+in_ok-add_part, else-is_rela}
+use Rattle.elf_objects.proofs.sound_file.relocation_rows.Goals.{then-is_rela+in_ok-room+in_ok-add_part, else-is_rela}
 
 pub loop-section-init : goal.loop-section-init
 loop-section-init c =
@@ -22,7 +22,7 @@ pub loop-section-preserved : goal.loop-section-preserved
 loop-section-preserved c =
     let b = c.args.tables.now.file.bytes.now in
     elim c.if-is_rela.branch [
-      | then-is_rela+in_ok-add_part w ↦
+      | then-is_rela+in_ok-room+in_ok-add_part w ↦
           (let is : is_rela b c.loop-section.section ≡ true = cc in
           let info : (header_of b c.loop-section.section).info ≡ w.header-header.result.info = rw w.header-header.ensures refl in
           let entries : entry_count b c.loop-section.section ≡ length w.content.result.now / 24 = rw (w.content.ensures.bytes, w.header-header.ensures) refl in

@@ -1,12 +1,12 @@
 use Rattle.std.proofs.Common.{◌≤◌, length, arith}
 use Rattle.std.proofs.lemmas.List.{take_all}
 use Rattle.symbols.specs.Wanted.{given_of}
-use Rattle.symbols.proofs.Answering.{HasAnswersAmong-more, HasAnswers-all}
+use Rattle.symbols.proofs.Answering.{HasAnswersAmong-next, HasAnswers-all}
 use Rattle.symbols.proofs.link.Link.answers.Goals as goal
 
 pub loop-at-preserved : goal.loop-at-preserved
 loop-at-preserved c =
-    HasAnswersAmong-more (given_of c.args.self.now.objects.now c.args.self.now.wanted.now) c.args.self.now.names c.loop-at.at (c.entry.result.0.now, c.entry.result.1) c.loop-at.answers _ c.entry.ensures.entry c.loop-at.invariant c.in_ok-add_answer.ensures
+    HasAnswersAmong-next (given_of c.args.self.now.objects.now c.args.self.now.wanted.now) c.args.self.now.names c.loop-at.at c.name.result.now c.loop-at.answers _ c.name.ensures c.loop-at.invariant c.in_ok-add_answer.ensures
 
 pub returns : goal.returns
 returns c =
