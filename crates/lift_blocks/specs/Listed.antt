@@ -1,88 +1,86 @@
 -- The operations in code order, and where blocks begin.
-use Rattle.std.specs.Prelude.{◌≡◌, ℕ, ◌<◌, List, [], ◌∷◌, ◌++◌, length, Option, Some, None, Bool, true, false, not, ◌||◌, nat_eq, map, slice_get}
-use Rattle.std.specs.List.{filter, filter_map}
+use Rattle.std.specs.Prelude.{◌≡◌, ℕ, ◌-◌, ◌^◌, ◌<◌, List, [], ◌∷◌, ◌++◌, length, Option, Some, None, Bool, true, false, not, ◌||◌, nat_eq, map, slice_get}
+use Rattle.std.specs.List.{filter, filter_map, range_with_len}
 use Rattle.rv_decode.specs.declared.ops.RvOp.{RvOp}
-use Rattle.rv_decode.specs.declared.ops.RvOp.TheVariants.{Lui, Auipc, Jal, Jalr, Branch, Load, Store, OpImm, Op, Fence, Trap}
-use Rattle.elf_objects.specs.declared.parts.SymbolIndex.{SymbolIndex}
-use Rattle.elf_objects.specs.declared.parts.SymbolIndex.TheVariants as index
+use Rattle.rv_decode.specs.declared.ops.RvOp.TheVariants as rv
+use Rattle.symbols.specs.declared.place.Place.{Place}
+use Rattle.symbols.specs.declared.place.Place.TheVariants as names
 use Rattle.symbols.specs.Wanted.{Given}
-use Rattle.symbols.specs.Resolution.{Definition, definition_of}
+use Rattle.symbols.specs.Resolution.{entry_place}
 use Rattle.relocs.specs.Places.{CodePlace, Code, Stub, Nowhere, code_at, all_places, has, next_place}
-use Rattle.relocs.specs.Words.{raw_at}
 use Rattle.relocs.specs.AddressMap.{needed_places}
-use Rattle.lift_blocks.specs.Operations.{Operation, rename, away, operation_at}
+use Rattle.lift_blocks.specs.Operations.{Operation, Plain, Branch, Jal, Jalr, Pair, HostCall, Sbrk, rename, operation_at}
 
--- the place of a symbol that is defined in a section
-abbrev pub place_in_section : ℕ → SymbolIndex → ℕ → CodePlace
-place_in_section object index.Undefined offset = Nowhere
-place_in_section object index.Absolute offset = Nowhere
-place_in_section object index.Common offset = Nowhere
-place_in_section object (index.Section section) offset = Code object section offset
+-- the place of code that a name stands for
+abbrev pub place_of : Place → CodePlace
+place_of (names.Code object section offset) = Code object section offset
+place_of other = Nowhere
 
--- the place of an entry
-abbrev pub place_of : Option Definition → CodePlace
-place_of None = Nowhere
-place_of (Some d) = place_in_section d.object d.symbol.index d.symbol.value
-
+-- the places of the entries
 abbrev pub entry_places : Given → List CodePlace
-entry_places given = map (λ name. place_of (definition_of given name)) given.wanted.entries
+entry_places given = map (λ at. place_of (entry_place given at)) (range_with_len 0 (length given.wanted.entries))
 
--- the place that a jump or a branch leads to
-abbrev pub target_of : CodePlace → Option RvOp → Option CodePlace
-target_of p None = None
-target_of p (Some (Lui rd value)) = None
-target_of p (Some (Auipc rd value)) = None
-target_of p (Some (Jal rd offset)) = Some (away p offset)
-target_of p (Some (Jalr rd rs1 imm)) = None
-target_of p (Some (Branch cond rs1 rs2 offset)) = Some (away p offset)
-target_of p (Some (Load width rd rs1 imm)) = None
-target_of p (Some (Store width rs1 rs2 imm)) = None
-target_of p (Some (OpImm op rd rs1 imm)) = None
-target_of p (Some (Op op rd rs1 rs2)) = None
-target_of p (Some Fence) = None
-target_of p (Some Trap) = None
+-- whether the machine can go on to the place after an operation: not after a jump or a trap
+abbrev pub plain_goes_on : RvOp → Bool
+plain_goes_on rv.Trap = false
+plain_goes_on op = true
 
--- whether the machine can go on behind what stands at a place: not behind a jump or a trap
-abbrev pub can_go_on : Option RvOp → Bool
-can_go_on None = false
-can_go_on (Some (Lui rd value)) = true
-can_go_on (Some (Auipc rd value)) = true
-can_go_on (Some (Jal rd offset)) = false
-can_go_on (Some (Jalr rd rs1 imm)) = false
-can_go_on (Some (Branch cond rs1 rs2 offset)) = true
-can_go_on (Some (Load width rd rs1 imm)) = true
-can_go_on (Some (Store width rs1 rs2 imm)) = true
-can_go_on (Some (OpImm op rd rs1 imm)) = true
-can_go_on (Some (Op op rd rs1 rs2)) = true
-can_go_on (Some Fence) = true
-can_go_on (Some Trap) = false
+abbrev pub can_go_on : {Target : Type 0} → Operation Target → Bool
+can_go_on (Plain op) = plain_goes_on op
+can_go_on (Branch cond rs1 rs2 target) = true
+can_go_on (Jal rd link target) = false
+can_go_on (Jalr rd rs1 imm link) = false
+can_go_on (Pair temp rd link target) = false
+can_go_on (HostCall number) = true
+can_go_on Sbrk = true
 
--- whether a block ends with what stands at a place: with a branch, a jump and a trap
-abbrev pub ends_block : Option RvOp → Bool
-ends_block None = true
-ends_block (Some (Lui rd value)) = false
-ends_block (Some (Auipc rd value)) = false
-ends_block (Some (Jal rd offset)) = true
-ends_block (Some (Jalr rd rs1 imm)) = true
-ends_block (Some (Branch cond rs1 rs2 offset)) = true
-ends_block (Some (Load width rd rs1 imm)) = false
-ends_block (Some (Store width rs1 rs2 imm)) = false
-ends_block (Some (OpImm op rd rs1 imm)) = false
-ends_block (Some (Op op rd rs1 rs2)) = false
-ends_block (Some Fence) = false
-ends_block (Some Trap) = true
+-- whether a block ends with an operation: with a branch, a jump or a trap
+abbrev pub ends_block : {Target : Type 0} → Operation Target → Bool
+ends_block (Plain op) = not (plain_goes_on op)
+ends_block (Branch cond rs1 rs2 target) = true
+ends_block (Jal rd link target) = true
+ends_block (Jalr rd rs1 imm link) = true
+ends_block (Pair temp rd link target) = true
+ends_block (HostCall number) = false
+ends_block Sbrk = false
+
+-- the target of an operation, where it names one
+abbrev pub target_of : {Target : Type 0} → Operation Target → Option Target
+target_of (Plain op) = None
+target_of (Branch cond rs1 rs2 target) = Some target
+target_of (Jal rd link target) = Some target
+target_of (Jalr rd rs1 imm link) = None
+target_of (Pair temp rd link target) = Some target
+target_of (HostCall number) = None
+target_of Sbrk = None
 
 abbrev pub some_if : {A : Type 0} → Bool → A → Option A
 some_if true x = Some x
 some_if false x = None
 
+-- the place after an operation, where the machine can go on to it
+abbrev pub next_of : Given → CodePlace → Option (Operation CodePlace) → Option CodePlace
+next_of given p None = None
+next_of given p (Some op) = some_if (can_go_on op) (next_place given p)
+
+abbrev pub onward_of : Given → CodePlace → Option CodePlace
+onward_of given p = next_of given p (operation_at given p)
+
 -- the places that the operation before can go on to
 abbrev pub onward_places : Given → List CodePlace
-onward_places given = filter_map (λ p. some_if (can_go_on (raw_at given p)) (next_place given p)) (all_places given)
+onward_places given = filter_map (onward_of given) (all_places given)
+
+-- the target of the operation at a place
+abbrev pub target_in : Option (Operation CodePlace) → Option CodePlace
+target_in None = None
+target_in (Some op) = target_of op
+
+abbrev pub target_at : Given → CodePlace → Option CodePlace
+target_at given p = target_in (operation_at given p)
 
 -- the places that begin a block wherever they stand: entries, targets and needed places
 abbrev pub aimed_places : Given → List CodePlace
-aimed_places given = entry_places given ++ filter_map (λ p. target_of p (raw_at given p)) (all_places given) ++ needed_places given
+aimed_places given = entry_places given ++ filter_map (target_at given) (all_places given) ++ needed_places given
 
 abbrev pub is_size : ℕ → Option (List ℕ) → Bool
 is_size offset None = false
@@ -102,10 +100,15 @@ is_emitted given p = not (is_end given p) || has (onward_places given ++ aimed_p
 abbrev pub code_places : Given → List CodePlace
 code_places given = filter (is_emitted given) (all_places given)
 
+-- whether a block ends at a place
+abbrev pub ends_at : Option (Operation CodePlace) → Bool
+ends_at None = true
+ends_at (Some op) = ends_block op
+
 -- which of these begin a block, where one ends before the first or doesn't
 abbrev pub starts : Given → Bool → List CodePlace → List Bool
 starts given ended [] = []
-starts given ended (p ∷ ps) = (ended || has (aimed_places given) p) ∷ starts given (ends_block (raw_at given p)) ps
+starts given ended (p ∷ ps) = (ended || has (aimed_places given) p) ∷ starts given (ends_at (operation_at given p)) ps
 
 abbrev pub or_nowhere : Option CodePlace → CodePlace
 or_nowhere None = Nowhere
@@ -133,4 +136,6 @@ pub record IsLifted (given : Given) (lifted : Lifted) : Type 0 where
   pub entries_are : map (place lifted.places) lifted.entries ≡ entry_places given
   pub entries_stand : (entry t : ℕ) → slice_get lifted.entries entry ≡ Some t → t < length lifted.places
   pub needed_are : map (place lifted.places) lifted.needed ≡ needed_places given
+  -- so few that each number of the map has 31 bits
+  pub few_needed : length lifted.needed < 2 ^ 30 - 1
   pub needed_stand : (i t : ℕ) → slice_get lifted.needed i ≡ Some t → t < length lifted.places

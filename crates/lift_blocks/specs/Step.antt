@@ -15,8 +15,9 @@ use Rattle.runs.specs.Turn.{Turn}
 use Rattle.runs.specs.Machine.{Outcome, Next, Jump, Call, Ends, At}
 use Rattle.runs.specs.Numbers.{jump_by}
 use Rattle.runs.specs.Laid.{Fetched, step_at}
+use Rattle.runs.specs.World.{World, in_world}
 use Rattle.machine_state.specs.State.{State, register, with_register}
-use Rattle.machine_state.specs.Ends.{Event, End, Host, panic, rules}
+use Rattle.machine_state.specs.Ends.{Event, End, Host, halt, panic, rules}
 use Rattle.page_memory.specs.Outcomes.{loads, stores}
 use Rattle.symbols.specs.Wanted.{Given}
 use Rattle.relocs.specs.Places.{CodePlace, next_place}
@@ -73,14 +74,14 @@ plain_does op s = Ends (panic s)
 
 -- What an operation does, where numbers name the places of a table. A jalr takes its target before it writes its
 -- link, modulo 2^32; one to 2^32 - 2^16 halts, and one to what is no number of the table panics.
-abbrev pub op_does : {Target : Type 0} → Host → List Target → Operation Target → State → Outcome Target State End
-op_does host table (Plain op) s = plain_does op s
-op_does host table (Branch cond rs1 rs2 target) s = if holds (of_cond cond) (value s rs1) (value s rs2) then Jump target s else Next s
-op_does host table (Jal rd link target) s = Jump target (with_value s rd link)
-op_does host table (Jalr rd rs1 imm link) s = jump_by (rules host) table ((value s rs1 + word_of imm) % 2 ^ 32) (with_value s rd link)
-op_does host table (Pair temp rd link target) s = Jump target (with_value (with_value s temp 0) rd link)
-op_does host table (HostCall number) s = Call number s
-op_does host table Sbrk s = Ends (panic s)
+abbrev pub op_does : {Target : Type 0} → List Target → Operation Target → State → Outcome Target State End
+op_does table (Plain op) s = plain_does op s
+op_does table (Branch cond rs1 rs2 target) s = if holds (of_cond cond) (value s rs1) (value s rs2) then Jump target s else Next s
+op_does table (Jal rd link target) s = Jump target (with_value s rd link)
+op_does table (Jalr rd rs1 imm link) s = jump_by halt panic table ((value s rs1 + word_of imm) % 2 ^ 32) (with_value s rd link)
+op_does table (Pair temp rd link target) s = Jump target (with_value (with_value s temp 0) rd link)
+op_does table (HostCall number) s = Call number s
+op_does table Sbrk s = Ends (panic s)
 
 abbrev pub behind : Given → CodePlace → Option (Operation CodePlace) → Option (Fetched (Operation CodePlace) CodePlace)
 behind given p None = None
@@ -90,6 +91,6 @@ behind given p (Some op) = Some (record { instr = op; next = next_place given p 
 abbrev pub fetch_op : Given → CodePlace → Option (Fetched (Operation CodePlace) CodePlace)
 fetch_op given p = behind given p (operation_at given p)
 
--- one step of the objects
-abbrev pub source_step : Host → Given → At CodePlace State → Turn (At CodePlace State) Event End
-source_step host given = step_at (rules host) (op_does host (needed_places given)) (fetch_op given)
+-- one step of the objects, with the host's answer where they call the host
+abbrev pub source_step : {Held : Type 0} → Host Held → Given → At CodePlace (World State Held) → Turn (At CodePlace (World State Held)) Event End
+source_step host given = step_at (rules host) (in_world (op_does (needed_places given))) (fetch_op given)

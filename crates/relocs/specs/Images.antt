@@ -3,7 +3,7 @@
 use Rattle.std.specs.Prelude.{ℕ, ◌+◌, ◌-◌, List, [], ◌∷◌, ◌++◌, length, replicate, Bool, true, false}
 use Rattle.elf_objects.specs.declared.parts.SectionKind.{SectionKind}
 use Rattle.elf_objects.specs.Objects.{Section, Object}
-use Rattle.symbols.specs.Wanted.{Given}
+use Rattle.symbols.specs.Wanted.{Given, kept_objects}
 use Rattle.machine_state.specs.Start.{read_only_start}
 use Rattle.layout.specs.Sections.{is_read_only, is_writable}
 use Rattle.layout.specs.Addresses.{aligned, writable_start}
@@ -28,7 +28,7 @@ with_objects is_of start bytes (object ∷ objects) = with_objects is_of start (
 
 -- the read-only and the writable part
 abbrev pub read_only_image : Given → List ℕ
-read_only_image given = with_objects is_read_only read_only_start [] given.objects
+read_only_image given = with_objects is_read_only read_only_start [] (kept_objects given)
 
 abbrev pub writable_image : Given → List ℕ
-writable_image given = with_objects is_writable (writable_start given) [] given.objects
+writable_image given = with_objects is_writable (writable_start given) [] (kept_objects given)

@@ -1,8 +1,8 @@
 -- The places of the source machine, in code order.
 use Rattle.std.specs.Prelude.{ℕ, zero, suc, ◌+◌, ◌/◌, List, [], ◌∷◌, ◌++◌, length, Option, Some, None, Bool, true, false, ◌&&◌, nat_eq, if◌then◌else◌, slice_get}
 use Rattle.std.specs.List.{list_any}
-use Rattle.elf_objects.specs.Objects.{Section, Object}
-use Rattle.symbols.specs.Wanted.{Given}
+use Rattle.elf_objects.specs.Objects.{Section}
+use Rattle.symbols.specs.Wanted.{Given, kept_objects, sections_in}
 use Rattle.layout.specs.Sections.{is_code}
 
 -- A place: an offset in bytes of a code section, or one of the operations of a stub, which stands for an import.
@@ -12,45 +12,37 @@ pub data CodePlace : Type 0 where
   Stub : (number at : ℕ) → CodePlace
   Nowhere : CodePlace
 
--- which sections the program takes: all, so far
-abbrev pub is_kept : Given → ℕ → ℕ → Bool
-is_kept given object section = true
+abbrev pub code_if : Option Section → Option (List ℕ)
+code_if None = None
+code_if (Some section) = if is_code section.kind then Some section.content else None
 
-abbrev pub sections_of : Option Object → List Section
-sections_of None = []
-sections_of (Some object) = object.sections
-
-abbrev pub code_if : Bool → Option Section → Option (List ℕ)
-code_if kept None = None
-code_if kept (Some section) = if kept && is_code section.kind then Some section.content else None
-
--- the bytes of a section, where it is a code section that is kept
+-- the bytes of a section, where it is one of code
 abbrev pub code_at : Given → ℕ → ℕ → Option (List ℕ)
-code_at given object section = code_if (is_kept given object section) (slice_get (sections_of (slice_get given.objects object)) section)
+code_at given object section = code_if (slice_get (sections_in given object) section)
 
 -- so many places of a section, four bytes apart
-abbrev pub places_from : ℕ → ℕ → ℕ → ℕ → List CodePlace
-places_from object section offset zero = []
-places_from object section offset (suc count) = Code object section offset ∷ places_from object section (offset + 4) count
+abbrev pub places_from : Given → ℕ → ℕ → ℕ → ℕ → List CodePlace
+places_from given object section offset zero = []
+places_from given object section offset (suc count) = Code object section offset ∷ places_from given object section (offset + 4) count
 
 -- the places of a section: each multiple of four that is at most its size
-abbrev pub section_places : ℕ → ℕ → Option (List ℕ) → List CodePlace
-section_places object section None = []
-section_places object section (Some bytes) = places_from object section 0 (length bytes / 4 + 1)
+abbrev pub section_places : Given → ℕ → ℕ → Option (List ℕ) → List CodePlace
+section_places given object section None = []
+section_places given object section (Some bytes) = places_from given object section 0 (length bytes / 4 + 1)
 
 -- the places of so many sections, from one on
 abbrev pub object_places : Given → ℕ → ℕ → ℕ → List CodePlace
 object_places given object section zero = []
-object_places given object section (suc count) = section_places object section (code_at given object section) ++ object_places given object (section + 1) count
+object_places given object section (suc count) = section_places given object section (code_at given object section) ++ object_places given object (section + 1) count
 
 -- the places of so many objects, from one on
 abbrev pub objects_places : Given → ℕ → ℕ → List CodePlace
 objects_places given object zero = []
-objects_places given object (suc count) = object_places given object 0 (length (sections_of (slice_get given.objects object))) ++ objects_places given (object + 1) count
+objects_places given object (suc count) = object_places given object 0 (length (sections_in given object)) ++ objects_places given (object + 1) count
 
 -- all places by object, section and offset: the one list that all other lists of places are taken from
 abbrev pub all_places : Given → List CodePlace
-all_places given = objects_places given 0 (length given.objects)
+all_places given = objects_places given 0 (length (kept_objects given))
 
 abbrev pub same_place : CodePlace → CodePlace → Bool
 same_place (Code o s offset) (Code o' s' offset') = nat_eq o o' && nat_eq s s' && nat_eq offset offset'
