@@ -5,11 +5,10 @@ use Rattle.std.proofs.lemmas.Bool.{cases_lt}
 use Rattle.std.proofs.lemmas.Bool.Decides.{nat_tests}
 use Rattle.runs.specs.Joined.{joined, position}
 use Rattle.runs.proofs.HasAt.{position_first}
-use Rattle.pvm_ops.specs.declared.instr.Instr.{Instr}
 use Rattle.pvm_ops.specs.Opcodes.{is_known, form_of}
 use Rattle.pvm_ops.specs.Spelling.{spelling, IsEncodable, FitsBytes}
 use Rattle.pvm_ops.specs.BlockList.{BlockList}
-use Rattle.jump_table.specs.Assembly.{offset_len, entry_len, jump, spelled, start_of, offset, entry_jumps}
+use Rattle.jump_table.specs.Assembly.{Member, offset_len, entry_len, jump, words, start_of, offset, entry_jumps}
 
 -- numbers near 0, from above and from below, are the sign extensions of their low four bytes
 low_fits : (v : ℕ) → v < 2 ^ 31 → FitsBytes offset_len v
@@ -47,43 +46,46 @@ unfolding spelling form_of
 length-jump x = refl
 
 -- a jump for each entry, with the offset to its block
-pub entry_jump : (list : BlockList) (at : ℕ) (entries : List ℕ) (rest : List Instr) (entry block : ℕ) → slice_get entries entry ≡ Some block → slice_get (entry_jumps list at entries ++ rest) entry ≡ Some (jump (offset (at + entry_len * entry) (start_of list block)))
-entry_jump list at [] rest entry block e = absurd cc
-entry_jump list at (b ∷ bs) rest zero block e =
+abbrev pub entry_member : List ℕ → BlockList → ℕ → ℕ → Member
+entry_member lengths list at block = record { instr = jump (offset at (start_of lengths list block)); len = offset_len; target = Some block }
+
+pub entry_jump : (lengths : List ℕ) (list : BlockList) (at : ℕ) (entries : List ℕ) (rest : List Member) (entry block : ℕ) → slice_get entries entry ≡ Some block → slice_get (entry_jumps lengths list at entries ++ rest) entry ≡ Some (entry_member lengths list (at + entry_len * entry) block)
+entry_jump lengths list at [] rest entry block e = absurd cc
+entry_jump lengths list at (b ∷ bs) rest zero block e =
     let same : b ≡ block = cc in
     let here : at + entry_len * 0 ≡ at = omega arith in
     rw (same, here) refl
-entry_jump list at (b ∷ bs) rest (suc entry) block e =
+entry_jump lengths list at (b ∷ bs) rest (suc entry) block e =
     let there : at + entry_len * suc entry ≡ at + entry_len + entry_len * entry = omega arith in
-    rw there (entry_jump list (at + entry_len) bs rest entry block e)
+    rw there (entry_jump lengths list (at + entry_len) bs rest entry block e)
 
 -- where an entry's jump stands
-pub entry_position : (list : BlockList) (at : ℕ) (entries : List ℕ) (rest : List Instr) (entry : ℕ) → entry ≤ length entries → position (spelled (entry_jumps list at entries ++ rest)) entry ≡ entry_len * entry
-entry_position list at entries rest zero le = position_first (spelled (entry_jumps list at entries ++ rest))
-entry_position list at [] rest (suc entry) le = absurd (omega arith)
-entry_position list at (b ∷ bs) rest (suc entry) le =
-    let r = entry_position list (at + entry_len) bs rest entry (omega arith) in
-    omega (arith, length-jump (offset at (start_of list b)))
+pub entry_position : (lengths : List ℕ) (list : BlockList) (at : ℕ) (entries : List ℕ) (rest : List Member) (entry : ℕ) → entry ≤ length entries → position (words (entry_jumps lengths list at entries ++ rest)) entry ≡ entry_len * entry
+entry_position lengths list at entries rest zero le = position_first (words (entry_jumps lengths list at entries ++ rest))
+entry_position lengths list at [] rest (suc entry) le = absurd (omega arith)
+entry_position lengths list at (b ∷ bs) rest (suc entry) le =
+    let r = entry_position lengths list (at + entry_len) bs rest entry (omega arith) in
+    omega (arith, length-jump (offset at (start_of lengths list b)))
 
 -- what stands behind the jumps
-pub behind_get : (list : BlockList) (at : ℕ) (entries : List ℕ) (rest : List Instr) (q : ℕ) → slice_get (entry_jumps list at entries ++ rest) (length entries + q) ≡ slice_get rest q
-behind_get list at [] rest q = let n : 0 + q ≡ q = omega arith in rw n refl
-behind_get list at (b ∷ bs) rest q =
+pub behind_get : (lengths : List ℕ) (list : BlockList) (at : ℕ) (entries : List ℕ) (rest : List Member) (q : ℕ) → slice_get (entry_jumps lengths list at entries ++ rest) (length entries + q) ≡ slice_get rest q
+behind_get lengths list at [] rest q = let n : 0 + q ≡ q = omega arith in rw n refl
+behind_get lengths list at (b ∷ bs) rest q =
     let n : suc (length bs) + q ≡ suc (length bs + q) = omega arith in
-    rw n (behind_get list (at + entry_len) bs rest q)
+    rw n (behind_get lengths list (at + entry_len) bs rest q)
 
 -- and where
-pub behind_position : (list : BlockList) (at : ℕ) (entries : List ℕ) (rest : List Instr) (q : ℕ) → position (spelled (entry_jumps list at entries ++ rest)) (length entries + q) ≡ entry_len * length entries + position (spelled rest) q
-behind_position list at [] rest q = let n : 0 + q ≡ q = omega arith in rw n (omega arith)
-behind_position list at (b ∷ bs) rest q =
+pub behind_position : (lengths : List ℕ) (list : BlockList) (at : ℕ) (entries : List ℕ) (rest : List Member) (q : ℕ) → position (words (entry_jumps lengths list at entries ++ rest)) (length entries + q) ≡ entry_len * length entries + position (words rest) q
+behind_position lengths list at [] rest q = let n : 0 + q ≡ q = omega arith in rw n (omega arith)
+behind_position lengths list at (b ∷ bs) rest q =
     let n : suc (length bs) + q ≡ suc (length bs + q) = omega arith in
-    let r = behind_position list (at + entry_len) bs rest q in
-    rw n (omega (arith, length-jump (offset at (start_of list b))))
+    let r = behind_position lengths list (at + entry_len) bs rest q in
+    rw n (omega (arith, length-jump (offset at (start_of lengths list b))))
 
 -- the length of it all
-pub length-behind : (list : BlockList) (at : ℕ) (entries : List ℕ) (rest : List Instr) → length (joined (spelled (entry_jumps list at entries ++ rest))) ≡ entry_len * length entries + length (joined (spelled rest))
-length-behind list at [] rest = omega arith
-length-behind list at (b ∷ bs) rest =
-    let r = length-behind list (at + entry_len) bs rest in
-    let x = offset at (start_of list b) in
-    omega (arith, length-jump x, length-append (spelling (jump x) offset_len) (joined (spelled (entry_jumps list (at + entry_len) bs ++ rest))))
+pub length-behind : (lengths : List ℕ) (list : BlockList) (at : ℕ) (entries : List ℕ) (rest : List Member) → length (joined (words (entry_jumps lengths list at entries ++ rest))) ≡ entry_len * length entries + length (joined (words rest))
+length-behind lengths list at [] rest = omega arith
+length-behind lengths list at (b ∷ bs) rest =
+    let r = length-behind lengths list (at + entry_len) bs rest in
+    let x = offset at (start_of lengths list b) in
+    omega (arith, length-jump x, length-append (spelling (jump x) offset_len) (joined (words (entry_jumps lengths list (at + entry_len) bs ++ rest))))

@@ -1,112 +1,194 @@
 -- The code of a list of blocks has each instruction at its position.
-use Rattle.std.proofs.Common.{◌≡◌, ℕ, zero, suc, ◌+◌, ◌*◌, ◌<◌, ◌^◌, true, false, List, ◌++◌, length, Some, None, refl, sym, ap, ◌∙◌, subst, arith}
+use Rattle.std.proofs.Common.{◌≡◌, ℕ, zero, suc, ◌+◌, ◌*◌, ◌<◌, ◌≤◌, ◌^◌, Bool, true, false, List, [], ◌∷◌, length, map, Option, Some, None, refl, sym, ap, ◌∙◌, subst, arith}
 use Rattle.std.specs.Prelude.{slice_get}
 use Rattle.std.proofs.lemmas.Option.{slice_get_within, slice_get-get_or}
+use Rattle.numbers.specs.Words.{sum_64}
 use Rattle.runs.specs.Joined.{joined, position}
 use Rattle.pvm_ops.specs.declared.instr.Instr.{Instr}
 use Rattle.pvm_ops.specs.Listing.{Listing, is_marked}
-use Rattle.pvm_ops.specs.BlockList.{Block, BlockList}
+use Rattle.pvm_ops.specs.Opcodes.{form_of}
+use Rattle.pvm_ops.specs.Offsets.{offset_of, has_offset}
+use Rattle.pvm_ops.specs.Spelling.{IsEncodable, FitsBytes}
+use Rattle.pvm_ops.specs.BlockList.{Block, BlockList, empty_block}
 use Rattle.blob_check.specs.Starts.{is_start}
-use Rattle.jump_table.specs.Assembly.{entry_len, jump, spelled, instrs_of, first_of, instr_position, start_of, offset, entry_jumps, code_instrs, code_of}
-use Rattle.jump_table.specs.Laws.{IsPlain, Fetches, IsPlaced, CodeIsPlaced}
+use Rattle.jump_table.specs.Assembly.{Member, offset_len, entry_len, jump, members_of, words, first_of, instr_position, start_of, offset, placed_instr, placed, code_members, code_of}
+use Rattle.jump_table.specs.Laws.{IsPlaceable, IsAssemblable, IsWide, AreEnded, AreLengths, Fetches, IsPlaced, CodeIsPlaced, FoursAreWide, TargetsAreLed, is_some}
+use Rattle.jump_table.proofs.Offsets.{with_rest, has_this, encodable_with, encodable_any}
 use Rattle.jump_table.proofs.Written.{written, position_le}
 use Rattle.jump_table.proofs.Spelled.{spelled_fetches, spelled_ends}
 use Rattle.jump_table.proofs.Entries.{offset_fits, jump_encodable, jump_known, entry_jump, entry_position, behind_get, behind_position, length-behind}
-use Rattle.jump_table.proofs.Blocks.{placed_same, block_instr, first_next, ended_length, ended_last, start_first}
+use Rattle.jump_table.proofs.Blocks.{block_member, member_instr, member_has, member_aims, few_member, first_next, block_length, block_last, start_first, placed_position, placed_size, at_number, placed_get, placed_none, four_member}
 use Rattle.jump_table.proofs.Starting.{starts_first, starts_behind}
 
--- all instructions of a list without targets: the jumps of its entries, and its instructions as they are
-abbrev all_of : BlockList → List Instr
-all_of list = entry_jumps list 0 list.entries ++ instrs_of list
+-- all instructions of a list with their offsets
+abbrev rest_of : List ℕ → BlockList → List Member
+rest_of lengths list = placed lengths list 0 (members_of lengths list)
 
 -- and their code
-abbrev laid : BlockList → Listing
-laid list = written (spelled (all_of list))
+abbrev laid : List ℕ → BlockList → Listing
+laid lengths list = written (words (code_members lengths list))
 
 -- what is fetched at a position is fetched at an equal one
 moved : (code : Listing) (at to next behind : ℕ) (i : Instr) → at ≡ to → next ≡ behind → Fetches code at i next → Fetches code to i behind
 moved code at to next behind i e f h = subst (λ n. Fetches code to i n) f (subst (λ p. Fetches code p i next) e h)
 
-module _ (list : BlockList) (plain : IsPlain list) (small : length (joined (spelled (all_of list))) < 2 ^ 31) where
+-- an instruction keeps its opcode
+placed_op : (lengths : List ℕ) (list : BlockList) (number : ℕ) (target : Option ℕ) (i : Instr) → (placed_instr lengths list number target i).op ≡ i.op
+placed_op lengths list number None i = refl
+placed_op lengths list number (Some target) i = (with_rest (form_of i.op) (offset (instr_position lengths list number) (start_of lengths list target)) i).op
+
+-- an offset leads back to where it leads
+back : (at to : ℕ) → at < 2 ^ 31 → to < 2 ^ 31 → sum_64 at (offset at to) ≡ to
+back at to a b = omega arith
+
+module _ (lengths : List ℕ) (list : BlockList) (small : length (joined (words (code_members lengths list))) < 2 ^ 31) where
   -- each position is in the code or at its end
-  position_small : (number : ℕ) → instr_position list number < 2 ^ 31
+  position_small : (number : ℕ) → instr_position lengths list number < 2 ^ 31
   position_small number =
-      let within = position_le (spelled (instrs_of list)) number in
-      omega (arith, length-behind list 0 list.entries (instrs_of list))
+      let within = position_le (words (members_of lengths list)) number in
+      omega (arith, length-behind lengths list 0 list.entries (rest_of lengths list), placed_size lengths list 0 (members_of lengths list))
 
-  -- an entry's jump at its position
-  entry_stands : (entry block : ℕ) → slice_get list.entries entry ≡ Some block → Fetches (laid list) (entry_len * entry) (jump (offset (entry_len * entry) (start_of list block))) (entry_len * (entry + 1))
-  entry_stands entry block e =
-      let lt : entry < length list.entries = slice_get_within list.entries entry block e in
-      let zero_and : 0 + entry_len * entry ≡ entry_len * entry = omega arith in
-      let from : entry_len * entry < 2 ^ 31 = omega (arith, length-behind list 0 list.entries (instrs_of list)) in
-      let fits = offset_fits (entry_len * entry) (start_of list block) from (position_small (first_of list block)) in
-      let is = rw zero_and at (entry_jump list 0 list.entries (instrs_of list) entry block e) in
-      moved (laid list) _ _ _ _ _
-      (entry_position list 0 list.entries (instrs_of list) entry (omega arith))
-      (entry_position list 0 list.entries (instrs_of list) (entry + 1) (omega arith))
-      (spelled_fetches (all_of list) entry _ is jump_known (jump_encodable _ fits))
+  -- where the instruction with a number stands behind the jumps
+  number_position : (number : ℕ) → position (words (code_members lengths list)) (length list.entries + number) ≡ instr_position lengths list number
+  number_position number = behind_position lengths list 0 list.entries (rest_of lengths list) number ∙ ap (λ p. entry_len * length list.entries + p) (placed_position lengths list 0 (members_of lengths list) number)
 
-  -- an instruction at its position
-  instr_stands : (number : ℕ) (i : Instr) → slice_get (instrs_of list) number ≡ Some i → Fetches (laid list) (instr_position list number) i (instr_position list (number + 1))
-  instr_stands number i e =
-      let ok = plain.instrs number i e in
-      let n : length list.entries + number + 1 ≡ length list.entries + (number + 1) = omega arith in
-      moved (laid list) _ _ _ _ _
-      (behind_position list 0 list.entries (instrs_of list) number)
-      (ap (position (spelled (all_of list))) n ∙ behind_position list 0 list.entries (instrs_of list) (number + 1))
-      (spelled_fetches (all_of list) (length list.entries + number) i (behind_get list 0 list.entries (instrs_of list) number ∙ e) ok.known ok.encodable)
+  -- the offset of an instruction leads to the start of its target
+  aimed_leads : (number : ℕ) (o : Option ℕ) (target : ℕ) (i : Instr) → o ≡ Some target → has_offset (form_of i.op) ≡ true → sum_64 (instr_position lengths list number) (offset_of (form_of i.op) (placed_instr lengths list number o i)) ≡ start_of lengths list target
+  aimed_leads number None target i e has = absurd cc
+  aimed_leads number (Some t) target i e has =
+      let same : t ≡ target = cc in
+      rw (has_this (form_of i.op) (offset (instr_position lengths list number) (start_of lengths list t)) i has, same) (back (instr_position lengths list number) (start_of lengths list target) (position_small number) (position_small (first_of list target)))
 
-  -- nothing behind the last
-  none_behind : (number : ℕ) → slice_get (instrs_of list) number ≡ None → is_marked (laid list) (instr_position list number) ≡ false
-  none_behind number e =
-      subst (λ (at : ℕ). is_marked (laid list) at ≡ false) (behind_position list 0 list.entries (instrs_of list) number)
-      (spelled_ends (all_of list) (length list.entries + number) (behind_get list 0 list.entries (instrs_of list) number ∙ e))
+  module _ (plain : IsAssemblable list) (wide : IsWide list lengths) where
+    -- an entry's jump at its position
+    entry_stands : (entry block : ℕ) → slice_get list.entries entry ≡ Some block → Fetches (laid lengths list) (entry_len * entry) (jump (offset (entry_len * entry) (start_of lengths list block))) (entry_len * (entry + 1))
+    entry_stands entry block e =
+        let lt : entry < length list.entries = slice_get_within list.entries entry block e in
+        let zero_and : 0 + entry_len * entry ≡ entry_len * entry = omega arith in
+        let from : entry_len * entry < 2 ^ 31 = omega (arith, length-behind lengths list 0 list.entries (rest_of lengths list)) in
+        let fits = offset_fits (entry_len * entry) (start_of lengths list block) from (position_small (first_of list block)) in
+        let is = rw zero_and at (entry_jump lengths list 0 list.entries (rest_of lengths list) entry block e) in
+        moved (laid lengths list) _ _ _ _ _
+        (entry_position lengths list 0 list.entries (rest_of lengths list) entry (omega arith))
+        (entry_position lengths list 0 list.entries (rest_of lengths list) (entry + 1) (omega arith))
+        (spelled_fetches (code_members lengths list) entry _ is jump_known (jump_encodable _ fits))
 
-  -- a block's first instruction at its start
-  first_stands : (block : ℕ) (b : Block) → slice_get list.blocks block ≡ Some b → (i : Instr) × Fetches (laid list) (start_of list block) i (instr_position list (first_of list block + 1))
-  first_stands block b e =
-      let ended = plain.ended block b e in
-      let first = slice_get-get_or b.instrs 0 ended.last (omega (arith, ended_length b.instrs ended)) in
-      let n : first_of list block + 0 ≡ first_of list block = omega arith in
-      (_, instr_stands (first_of list block) _ (rw n at (block_instr list block b 0 _ e first)))
+    -- an instruction can be spelled with its offset
+    placed_encodable : (number : ℕ) (m : Member) → slice_get (members_of lengths list) number ≡ Some m → IsEncodable (placed_instr lengths list number m.target m.instr) m.len
+    placed_encodable number m e = by_target m.target refl
+      where
+        few : m.len ≤ 4
+        few = few_member lengths list wide.few number m e
 
-  -- the first block starts behind the jumps of so many entries, or at position 0
-  first_block : (count : ℕ) (b : Block) → length list.entries ≡ count → slice_get list.blocks 0 ≡ Some b → is_start (laid list) (start_of list 0) ≡ true
-  first_block zero b n e =
-      let first = first_stands 0 b e in
-      let here : start_of list 0 ≡ 0 = omega (arith, start_first list) in
-      subst (λ (at : ℕ). is_start (laid list) at ≡ true) (sym here) (starts_first (laid list) first.0 _ (rw here at first.1))
-  first_block (suc entry) b n e =
-      let first = first_stands 0 b e in
-      let here : entry_len * (entry + 1) ≡ start_of list 0 = omega (arith, start_first list) in
-      let before = entry_stands entry _ (slice_get-get_or list.entries entry 0 (omega arith)) in
-      starts_behind (laid list) _ _ (start_of list 0) first.0 _ (rw here at before) refl first.1
+        ok : IsPlaceable m.instr
+        ok = plain.instrs number m.instr (member_instr lengths list number m e)
 
-  -- every other starts behind the one before
-  next_block : (block : ℕ) (b next : Block) → slice_get list.blocks block ≡ Some b → slice_get list.blocks (block + 1) ≡ Some next → is_start (laid list) (start_of list (block + 1)) ≡ true
-  next_block block b next e f =
-      let ended = plain.ended block b e in
-      let first = first_stands (block + 1) next f in
-      let before = instr_stands (first_of list block + length ended.front) ended.last (block_instr list block b (length ended.front) ended.last e (ended_last b.instrs ended)) in
-      let last_number : first_of list block + length ended.front + 1 ≡ first_of list (block + 1) = omega (arith, first_next list block b e, ended_length b.instrs ended) in
-      starts_behind (laid list) _ ended.last _ first.0 _ (rw last_number at before) ended.terminator first.1
+        by_target : (o : Option ℕ) → m.target ≡ o → IsEncodable (placed_instr lengths list number o m.instr) m.len
+        by_target None f = encodable_any m.instr m.len offset_len few (by_offset (has_offset (form_of m.instr.op)) refl) ok.encodable
+          where
+            by_offset : (b : Bool) → has_offset (form_of m.instr.op) ≡ b → b ≡ false
+            by_offset true has = (let aimed = member_has lengths list plain.blocks number m e has in let none : is_some m.target ≡ false = ap is_some f in absurd cc)
+            by_offset false has = refl
+        by_target (Some target) f = encodable_with _ m.instr m.len offset_len few (λ has. wide.fits number target m e f has) ok.encodable
 
-  -- a block starts where each of the list does
-  each_starts : (block : ℕ) (b : Block) → slice_get list.blocks block ≡ Some b → is_start (laid list) (start_of list block) ≡ true
-  each_starts zero b e = first_block (length list.entries) b refl e
-  each_starts (suc block) b e =
-      let n : suc block ≡ block + 1 = omega arith in
-      let within = slice_get_within list.blocks (suc block) b e in
-      rw n (next_block block _ b (slice_get-get_or list.blocks block b (omega arith)) (rw n at e))
+    -- so it stands at its position
+    instr_stands : (number : ℕ) (m : Member) → slice_get (members_of lengths list) number ≡ Some m → Fetches (laid lengths list) (instr_position lengths list number) (placed_instr lengths list number m.target m.instr) (instr_position lengths list (number + 1))
+    instr_stands number m e =
+        let ok = plain.instrs number m.instr (member_instr lengths list number m e) in
+        let n : length list.entries + number + 1 ≡ length list.entries + (number + 1) = omega arith in
+        let k : 0 + number ≡ number = omega arith in
+        let there = rw k at (placed_get lengths list 0 (members_of lengths list) number m e) in
+        moved (laid lengths list) _ _ _ _ _
+        (number_position number)
+        (ap (position (words (code_members lengths list))) n ∙ number_position (number + 1))
+        (spelled_fetches (code_members lengths list) (length list.entries + number) (at_number lengths list number m) (behind_get lengths list 0 list.entries (rest_of lengths list) number ∙ there)
+        (rw (placed_op lengths list number m.target m.instr) ok.known) (placed_encodable number m e))
 
-  -- so all is placed
-  all_placed : IsPlaced list (laid list)
-  all_placed = record { entries = entry_stands; instrs = instr_stands; past = none_behind; starts = each_starts }
+    -- nothing behind the last
+    none_behind : (number : ℕ) → slice_get (members_of lengths list) number ≡ None → is_marked (laid lengths list) (instr_position lengths list number) ≡ false
+    none_behind number e =
+        subst (λ (at : ℕ). is_marked (laid lengths list) at ≡ false) (number_position number)
+        (spelled_ends (code_members lengths list) (length list.entries + number) (behind_get lengths list 0 list.entries (rest_of lengths list) number ∙ placed_none lengths list 0 (members_of lengths list) number e))
 
--- without targets that is the code of the list
+    -- a block's first instruction at its start
+    first_stands : (block : ℕ) (b : Block) → slice_get list.blocks block ≡ Some b → (i : Instr) × Fetches (laid lengths list) (start_of lengths list block) i (instr_position lengths list (first_of list block + 1))
+    first_stands block b e =
+        let ended = plain.blocks block b e in
+        let first = slice_get-get_or b.instrs 0 ended.last (omega (arith, block_length b ended)) in
+        let n : first_of list block + 0 ≡ first_of list block = omega arith in
+        (_, instr_stands (first_of list block) _ (rw n at (block_member lengths list block b 0 _ e first)))
+
+    -- the first block starts behind the jumps of so many entries, or at position 0
+    first_block : (count : ℕ) (b : Block) → length list.entries ≡ count → slice_get list.blocks 0 ≡ Some b → is_start (laid lengths list) (start_of lengths list 0) ≡ true
+    first_block zero b n e =
+        let first = first_stands 0 b e in
+        let here : start_of lengths list 0 ≡ 0 = omega (arith, start_first lengths list) in
+        subst (λ (at : ℕ). is_start (laid lengths list) at ≡ true) (sym here) (starts_first (laid lengths list) first.0 _ (rw here at first.1))
+    first_block (suc entry) b n e =
+        let first = first_stands 0 b e in
+        let here : entry_len * (entry + 1) ≡ start_of lengths list 0 = omega (arith, start_first lengths list) in
+        let before = entry_stands entry _ (slice_get-get_or list.entries entry 0 (omega arith)) in
+        starts_behind (laid lengths list) _ _ (start_of lengths list 0) first.0 _ (rw here at before) refl first.1
+
+    -- every other starts behind the one before
+    next_block : AreEnded list → (block : ℕ) (b next : Block) → slice_get list.blocks block ≡ Some b → slice_get list.blocks (block + 1) ≡ Some next → is_start (laid lengths list) (start_of lengths list (block + 1)) ≡ true
+    next_block are_ended block b next e f =
+        let ended = plain.blocks block b e in
+        let first = first_stands (block + 1) next f in
+        let number = first_of list block + length ended.front in
+        let before = instr_stands number _ (block_member lengths list block b (length ended.front) ended.last e (block_last b ended)) in
+        let last_number : first_of list block + length ended.front + 1 ≡ first_of list (block + 1) = omega (arith, first_next list block b e, block_length b ended) in
+        let terminator = are_ended block b ended.front ended.last e ended.is in
+        starts_behind (laid lengths list) _ (placed_instr lengths list number b.target ended.last) _ first.0 _ (rw last_number at before) (rw (placed_op lengths list number b.target ended.last) terminator) first.1
+
+    -- a block starts where each of the list does
+    each_starts : AreEnded list → (block : ℕ) → block < length list.blocks → is_start (laid lengths list) (start_of lengths list block) ≡ true
+    each_starts are_ended zero lt = first_block (length list.entries) _ refl (slice_get-get_or list.blocks 0 empty_block lt)
+    each_starts are_ended (suc block) lt =
+        let n : suc block ≡ block + 1 = omega arith in
+        rw n (next_block are_ended block _ _ (slice_get-get_or list.blocks block empty_block (omega arith)) (slice_get-get_or list.blocks (block + 1) empty_block (omega arith)))
+
+    -- so all is placed
+    all_placed : IsPlaced lengths list (laid lengths list)
+    all_placed = record { entries = entry_stands; instrs = instr_stands; leads = λ number target m e has. aimed_leads number m.target target m.instr e has; past = none_behind; starts = each_starts; lands = λ are_ended number target m e f. each_starts are_ended target (member_aims lengths list plain.targets number target m e f) }
+
+  -- offsets of four bytes are wide enough
+  fours_are_wide : AreLengths list lengths → IsWide list lengths
+  fours_are_wide four = record {
+    few = λ k len e. (let same = four_lengths k len e in omega (arith, same));
+    fits = λ number target m e f has. subst (λ len. FitsBytes len (offset (instr_position lengths list number) (start_of lengths list target))) (sym (four_member lengths list four number m e)) (offset_fits (instr_position lengths list number) (start_of lengths list target) (position_small number) (position_small (first_of list target)));
+  }
+    where
+      four_lengths : (k len : ℕ) → slice_get lengths k ≡ Some len → len ≡ 4
+      four_lengths k len e = are_four list.blocks k len (ap (λ l. slice_get l k) (sym four) ∙ e)
+        where
+          are_four : (bs : List Block) (k len : ℕ) → slice_get (map (λ b. offset_len) bs) k ≡ Some len → len ≡ 4
+          are_four [] k len e = absurd cc
+          are_four (b ∷ bs) zero len e = cc
+          are_four (b ∷ bs) (suc k) len e = are_four bs k len e
+
 pub code_is_placed : CodeIsPlaced
 unfolding code_of
-code_is_placed list plain small =
-    let e : code_instrs list ≡ all_of list = ap (λ is. entry_jumps list 0 list.entries ++ is) (placed_same list 0 list.blocks plain.no_target) in
-    subst (λ is. IsPlaced list (written (spelled is))) (sym e) (all_placed list plain (subst (λ (is : List Instr). length (joined (spelled is)) < 2 ^ 31) e small))
+code_is_placed lengths list plain wide small = all_placed lengths list small plain wide
+
+pub fours_are_wide_enough : FoursAreWide
+unfolding code_of
+fours_are_wide_enough lengths list four small = fours_are_wide lengths list small four
+
+-- at the end of a block with a target
+pub targets_are_led : TargetsAreLed
+targets_are_led lengths list code plain placed block target b e f =
+    let ended = plain.blocks block b e in
+    let number = first_of list block + length ended.front in
+    let there = block_member lengths list block b (length ended.front) ended.last e (block_last b ended) in
+    let has : has_offset (form_of ended.last.op) ≡ true = ended.aimed ∙ ap is_some f in
+    let op = placed_op lengths list number b.target ended.last in
+    let next : number + 1 ≡ first_of list (block + 1) = omega (arith, first_next list block b e, block_length b ended) in
+    record {
+      at = instr_position lengths list number;
+      last = placed_instr lengths list number b.target ended.last;
+      fetched = rw next at (placed.instrs number _ there);
+      has = rw op has;
+      leads = rw op (placed.leads number target (record { instr = ended.last; len = 0; target = b.target }) f has);
+      starts = λ are_ended. placed.starts are_ended target (plain.targets block target b e f);
+    }

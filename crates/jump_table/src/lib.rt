@@ -1,11 +1,15 @@
 //! From blocks of instructions to code: the position of each instruction, the marks, the offsets and the jump table.
 //!
-//! So far these are definitions, with the law that each instruction of the list stands at its position in the code.
+//! So far these are definitions, with the law that each instruction of the list stands at its position in the code, and
+//! the last of a block leads to the start of the block's target.
 #![tactic(auto)]
 
-ghost use Rattle.jump_table.specs.Laws.{CodeIsPlaced};
+ghost use Rattle.jump_table.specs.Laws.{CodeIsPlaced, FoursAreWide, TargetsAreLed};
 
-/// The code of a list of blocks has each instruction at its position.
+/// The code of a list of blocks has each instruction at its position, where the lengths of offsets are wide enough, as
+/// four bytes each are, and a block with a target leads to its start.
 pub fn code_is_placed()
-    ensures { CodeIsPlaced }
+    ensures placed { CodeIsPlaced }
+    ensures wide { FoursAreWide }
+    ensures led { TargetsAreLed }
 {}

@@ -7,7 +7,7 @@ use Rattle.elf_objects.specs.declared.parts.SectionKind.{SectionKind}
 use Rattle.elf_objects.specs.declared.parts.SectionKind.TheVariants as kinds
 use Rattle.elf_objects.specs.Objects.{Section, Object}
 use Rattle.symbols.specs.Parts.{object_at}
-use Rattle.symbols.specs.Wanted.{Given}
+use Rattle.symbols.specs.Wanted.{Given, kept_objects}
 use Rattle.machine_state.specs.Start.{pages_of, read_only_start, start_behind}
 use Rattle.layout.specs.Sections.{is_read_only, is_writable, is_zero, extent}
 
@@ -36,11 +36,11 @@ end_of_objects is_of at (object ∷ objects) = end_of_objects is_of (end_of_sect
 -- where those end that stand before a section of an object
 abbrev pub end_before : (SectionKind → Bool) → ℕ → Given → ℕ → ℕ → ℕ
 end_before is_of at given o s =
-    end_of_sections is_of (end_of_objects is_of at (take o given.objects)) (take s (object_at given.objects o).sections)
+    end_of_sections is_of (end_of_objects is_of at (take o (kept_objects given))) (take s (object_at (kept_objects given) o).sections)
 
 -- the read-only part: where it ends, and its bytes
 abbrev pub read_only_end : Given → ℕ
-read_only_end given = end_of_objects is_read_only read_only_start given.objects
+read_only_end given = end_of_objects is_read_only read_only_start (kept_objects given)
 
 abbrev pub read_only_len : Given → ℕ
 read_only_len given = read_only_end given - read_only_start
@@ -50,14 +50,14 @@ abbrev pub writable_start : Given → ℕ
 writable_start given = start_behind (read_only_len given)
 
 abbrev pub writable_end : Given → ℕ
-writable_end given = end_of_objects is_writable (writable_start given) given.objects
+writable_end given = end_of_objects is_writable (writable_start given) (kept_objects given)
 
 abbrev pub writable_len : Given → ℕ
 writable_len given = writable_end given - writable_start given
 
 -- where the sections of zeros end
 abbrev pub zero_end : Given → ℕ
-zero_end given = end_of_objects is_zero (writable_end given) given.objects
+zero_end given = end_of_objects is_zero (writable_end given) (kept_objects given)
 
 -- how many pages they need behind those of the writable part
 abbrev pub zero_pages : Given → ℕ
@@ -80,4 +80,4 @@ address_in given o s (Some section) = address_by section.kind given o s section
 
 -- the address of a section of an object, by their numbers: code has none, nor what isn't loaded
 abbrev pub address_of : Given → ℕ → ℕ → Option ℕ
-address_of given o s = address_in given o s (slice_get (object_at given.objects o).sections s)
+address_of given o s = address_in given o s (slice_get (object_at (kept_objects given) o).sections s)

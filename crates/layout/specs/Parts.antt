@@ -1,10 +1,11 @@
 -- The parts of a program's data, as they are measured.
-use Rattle.std.specs.Prelude.{◌≡◌, Some, None}
+use Rattle.std.specs.Prelude.{◌≡◌, [], Some}
+use Rattle.faults.specs.Present.{first_in}
 use Rattle.elf_objects.specs.declared.fault.Fault.{Fault}
-use Rattle.symbols.specs.Wanted.{Given}
+use Rattle.symbols.specs.Wanted.{Given, kept_objects}
 use Rattle.machine_state.specs.Start.{read_only_start}
 use Rattle.layout.specs.Addresses.{read_only_len, writable_start, writable_end, writable_len, zero_pages}
-use Rattle.layout.specs.Faults.{layout_fault}
+use Rattle.layout.specs.Faults.{layout_faults}
 use Rattle.layout.specs.Steps.{behind_objects, AreAddresses}
 use Rattle.layout.specs.declared.next.Next.{Next}
 use Rattle.layout.specs.declared.parts.Parts.{Parts}
@@ -19,8 +20,8 @@ pub record IsMeasured (given : Given) (parts : Parts) : Type 0 where
   pub writable_is : parts.writable_len ≡ writable_len given
   pub zero_pages_are : parts.zero_pages ≡ zero_pages given
   pub starts_are : parts.starts ≡ starts_of given
-  pub ends_fit : AreAddresses (behind_objects (starts_of given) given.objects)
-  pub no_fault : layout_fault given ≡ None
+  pub ends_fit : AreAddresses (behind_objects (starts_of given) (kept_objects given))
+  pub no_fault : layout_faults given ≡ []
 
 abbrev pub TellsFault : Given → Fault → Type 0
-TellsFault given fault = layout_fault given ≡ Some fault
+TellsFault given fault = first_in (layout_faults given) ≡ Some fault

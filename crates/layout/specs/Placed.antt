@@ -1,9 +1,9 @@
 -- The addresses of sections and the lengths of the parts, as they are kept.
-use Rattle.std.specs.Prelude.{◌≡◌, ℕ, ◌<◌, List, [], length, slice_get, unwrap_or, Option, Some, None}
+use Rattle.std.specs.Prelude.{◌≡◌, ℕ, ◌<◌, List, [], length, slice_get, unwrap_or, Option, Some}
 use Rattle.symbols.specs.Parts.{object_at}
-use Rattle.symbols.specs.Wanted.{Given}
+use Rattle.symbols.specs.Wanted.{Given, kept_objects}
 use Rattle.layout.specs.Addresses.{address_of, read_only_len, writable_len, zero_pages}
-use Rattle.layout.specs.Faults.{layout_fault}
+use Rattle.layout.specs.Faults.{layout_faults}
 
 -- the addresses of the sections of each object, the bytes of the read-only and of the writable part, and the zero pages
 pub record Placed : Type 0 where
@@ -18,8 +18,8 @@ place_in placed o s = slice_get (unwrap_or (slice_get placed.addresses o) []) s
 
 -- they are those of the objects, which have no fault of the layout
 pub record IsPlaced (given : Given) (placed : Placed) : Type 0 where
-  pub addresses_are : (o s : ℕ) → o < length given.objects → s < length (object_at given.objects o).sections → place_in placed o s ≡ Some (address_of given o s)
+  pub addresses_are : (o s : ℕ) → o < length (kept_objects given) → s < length (object_at (kept_objects given) o).sections → place_in placed o s ≡ Some (address_of given o s)
   pub read_only_is : placed.read_only_len ≡ read_only_len given
   pub writable_is : placed.writable_len ≡ writable_len given
   pub zero_pages_are : placed.zero_pages ≡ zero_pages given
-  pub no_fault : layout_fault given ≡ None
+  pub no_fault : layout_faults given ≡ []

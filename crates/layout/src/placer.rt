@@ -1,5 +1,6 @@
 ghost use Rattle.std.specs.Prelude.{MatchResult};
 ghost use Rattle.symbols.specs.Wanted.{Wanted, given_of};
+ghost use Rattle.symbols.specs.Resolved.{IsResolved};
 ghost use Rattle.layout.specs.Placed.{IsPlaced};
 ghost use Rattle.layout.specs.Faults.{Refuses};
 
@@ -10,8 +11,8 @@ use elf_objects::Objects;
 use std::alloc::Global;
 use symbols::Resolved;
 
-/// Where the sections of the objects are loaded that aren't code. What symbols stand for does not matter so far, nor does
-/// the size of the stack.
+/// The addresses of the sections of data, for every input of a link with these objects and what its symbols resolve to.
+/// Neither the resolution nor the size of the stack, in bytes, changes them for now.
 ///
 /// # Errors
 /// `Bad` exactly where the objects have a fault of the layout, with the first one, and `Memory`.
@@ -21,7 +22,7 @@ pub fn place_all(
     resolved: &Resolved,
     stack: u32,
 ) -> Result<Placed, LayoutFault>
-    ensures { (wanted : Wanted) → MatchResult result (IsPlaced (given_of objects.now wanted)) (Refuses (given_of objects.now wanted)) }
+    ensures { (wanted : Wanted) → IsResolved (given_of objects.now wanted) resolved.now → MatchResult result (IsPlaced (given_of objects.now wanted)) (Refuses (given_of objects.now wanted)) }
 {
     let parts = measure(objects)?;
     let mut next = parts.starts;

@@ -12,7 +12,7 @@ use Rattle.rv_decode.specs.Operations.{IsWritten}
 use Rattle.runs.specs.Machine.{Outcome}
 use Rattle.runs.specs.Pieces.{NoCall, GoodOutcome}
 use Rattle.machine_state.specs.State.{State, register, with_register, IsState}
-use Rattle.machine_state.specs.Ends.{End, Host}
+use Rattle.machine_state.specs.Ends.{End}
 use Rattle.machine_state.proofs.Registers.{registers_stay}
 use Rattle.page_memory.specs.Outcomes.{widened, loads, stores}
 use Rattle.page_memory.proofs.Outcomes.{widened_fits, loads_by, stores_by}
@@ -29,7 +29,7 @@ use Rattle.lower.proofs.Single.{LowersOp, lowers_one}
 from_zero : (x : ℕ) → x ≡ 0 + x
 from_zero x = omega arith
 
-module _ (host : Host) (needed : List ℕ) where
+module _ (needed : List ℕ) where
   -- a load into a register, and a store
   abbrev loads_into : LoadWidth → ℕ → ℕ → State → Outcome ℕ State End
   loads_into width d address s = loads (λ x. with_register s d x) (load_has_sign width) (load_bytes width) address s
@@ -40,8 +40,8 @@ module _ (host : Host) (needed : List ℕ) where
   -- what the instructions of a load do: at an immediate address, and at a register and an immediate
   record LoadEffects (width : LoadWidth) : Type 0 where
     few : load_bytes width ≤ 8
-    absolute : (d x : ℕ) (s : State) → effect host needed 0 (rx (load_opcode width) d x) s ≡ loads_into width d x s
-    indirect : (d a x : ℕ) (s : State) → effect host needed 0 (rrx (load_ind_opcode width) d a x) s ≡ loads_into width d (register s a + x) s
+    absolute : (d x : ℕ) (s : State) → effect needed 0 (rx (load_opcode width) d x) s ≡ loads_into width d x s
+    indirect : (d a x : ℕ) (s : State) → effect needed 0 (rrx (load_ind_opcode width) d a x) s ≡ loads_into width d (register s a + x) s
 
   load_effects : (width : LoadWidth) → LoadEffects width
   unfolding effect
@@ -55,10 +55,10 @@ module _ (host : Host) (needed : List ℕ) where
 
   -- and those of a store, of a register and of an immediate
   record StoreEffects (width : StoreWidth) : Type 0 where
-    absolute : (b x : ℕ) (s : State) → effect host needed 0 (rx (store_opcode width) b x) s ≡ stores_word width x (register s b) s
-    indirect : (b a x : ℕ) (s : State) → effect host needed 0 (rrx (store_ind_opcode width) b a x) s ≡ stores_word width (register s a + x) (register s b) s
-    immediate : (x y : ℕ) (s : State) → effect host needed 0 (xy (store_imm_opcode width) x y) s ≡ stores_word width x y s
-    immediate_indirect : (a x y : ℕ) (s : State) → effect host needed 0 (rxy (store_imm_ind_opcode width) a x y) s ≡ stores_word width (register s a + x) y s
+    absolute : (b x : ℕ) (s : State) → effect needed 0 (rx (store_opcode width) b x) s ≡ stores_word width x (register s b) s
+    indirect : (b a x : ℕ) (s : State) → effect needed 0 (rrx (store_ind_opcode width) b a x) s ≡ stores_word width (register s a + x) (register s b) s
+    immediate : (x y : ℕ) (s : State) → effect needed 0 (xy (store_imm_opcode width) x y) s ≡ stores_word width x y s
+    immediate_indirect : (a x y : ℕ) (s : State) → effect needed 0 (rxy (store_imm_ind_opcode width) a x y) s ≡ stores_word width (register s a + x) y s
 
   store_effects : (width : StoreWidth) → StoreEffects width
   unfolding effect
@@ -90,10 +90,10 @@ module _ (host : Host) (needed : List ℕ) where
   -- a load whose instruction does what it does: its register takes a word
   lowers_load_by :
       (width : LoadWidth) (d : ℕ) (rs1 : Reg) (imm : ℤ) (i : Instr) → lower_plain (rv.Load width (R d) rs1 imm) ≡ i ∷ []
-      → ((s : State) → effect host needed 0 i s ≡ loads_into width d (value s rs1 + word_of imm) s)
-      → LowersOp host needed (Plain (rv.Load width (R d) rs1 imm))
+      → ((s : State) → effect needed 0 i s ≡ loads_into width d (value s rs1 + word_of imm) s)
+      → LowersOp needed (Plain (rv.Load width (R d) rs1 imm))
   lowers_load_by width d rs1 imm i is same =
-      lowers_one host needed (rv.Load width (R d) rs1 imm) i is (λ s g. same s)
+      lowers_one needed (rv.Load width (R d) rs1 imm) i is (λ s g. same s)
       (λ s. loads_by {Target = ℕ} NoCall (λ x. with_register s d x) signed bytes (address s) s (λ number. tt) (λ end. tt))
       (λ s g. loads_by {Target = ℕ} (GoodOutcome IsState) (λ x. with_register s d x) signed bytes (address s) s (λ number. registers_stay s d (widened signed bytes number) g (widened_fits signed bytes number (load_effects width).few)) (λ end. tt))
     where
@@ -107,7 +107,7 @@ module _ (host : Host) (needed : List ℕ) where
       address s = value s rs1 + word_of imm
 
   -- a load at an immediate address, or at a register and an immediate
-  pub lowers_load : (width : LoadWidth) (rd rs1 : Reg) (imm : ℤ) → IsWritten rd → LowersOp host needed (Plain (rv.Load width rd rs1 imm))
+  pub lowers_load : (width : LoadWidth) (rd rs1 : Reg) (imm : ℤ) → IsWritten rd → LowersOp needed (Plain (rv.Load width rd rs1 imm))
   lowers_load width Zero rs1 imm h = absurd h
   lowers_load width (R d) Zero imm h =
       let x = word_of imm in
@@ -119,15 +119,15 @@ module _ (host : Host) (needed : List ℕ) where
   -- a store whose instruction does what it does: it leaves the registers
   lowers_store_by :
       (width : StoreWidth) (rs1 rs2 : Reg) (imm : ℤ) (i : Instr) → lower_plain (rv.Store width rs1 rs2 imm) ≡ i ∷ []
-      → ((s : State) → effect host needed 0 i s ≡ stores_word width (value s rs1 + word_of imm) (value s rs2) s)
-      → LowersOp host needed (Plain (rv.Store width rs1 rs2 imm))
+      → ((s : State) → effect needed 0 i s ≡ stores_word width (value s rs1 + word_of imm) (value s rs2) s)
+      → LowersOp needed (Plain (rv.Store width rs1 rs2 imm))
   lowers_store_by width rs1 rs2 imm i is same =
-      lowers_one host needed (rv.Store width rs1 rs2 imm) i is (λ s g. same s)
+      lowers_one needed (rv.Store width rs1 rs2 imm) i is (λ s g. same s)
       (λ s. stores_by {Target = ℕ} NoCall (store_bytes width) (value s rs1 + word_of imm) (value s rs2) s (λ memory. tt) (λ end. tt))
       (λ s g. stores_by {Target = ℕ} (GoodOutcome IsState) (store_bytes width) (value s rs1 + word_of imm) (value s rs2) s (λ memory. g) (λ end. tt))
 
   -- a store of a register, or of x0 as the immediate 0
-  pub lowers_store : (width : StoreWidth) (rs1 rs2 : Reg) (imm : ℤ) → LowersOp host needed (Plain (rv.Store width rs1 rs2 imm))
+  pub lowers_store : (width : StoreWidth) (rs1 rs2 : Reg) (imm : ℤ) → LowersOp needed (Plain (rv.Store width rs1 rs2 imm))
   lowers_store width Zero Zero imm =
       let x = word_of imm in
       lowers_store_by width Zero Zero imm (xy (store_imm_opcode width) x 0) refl (λ s. (store_effects width).immediate x 0 s ∙ ap (λ at. stores_word width at 0 s) (from_zero x))

@@ -6,27 +6,28 @@ use Rattle.std.proofs.lemmas.List.Folds.{list_any-append}
 use Rattle.std.proofs.lemmas.Option.{slice_get-map, slice_get-get_or}
 use Rattle.runs.specs.Joined.{joined, position}
 use Rattle.runs.specs.Blocks.{blocks, block_of}
-use Rattle.runs.specs.Pieces.{op_place}
+use Rattle.runs.specs.Pieces.{op_place, all_ops}
+use Rattle.runs.specs.Groups.{parts}
+use Rattle.runs.proofs.Groups.{joined_parts, pieces_ops, group_ops, group_op_place}
 use Rattle.runs.proofs.Blocks.{blocks_joined, block_begins, block_stands}
 use Rattle.symbols.specs.Wanted.{Given}
 use Rattle.relocs.specs.Places.{CodePlace, Code, Stub, Nowhere, all_places, same_place, has}
-use Rattle.relocs.specs.Words.{raw_at}
 use Rattle.relocs.specs.AddressMap.{needed_places}
-use Rattle.lift_blocks.specs.Operations.{Operation}
-use Rattle.lift_blocks.specs.Listed.{Lifted, IsLifted, entry_places, target_of, aimed_places, ends_block, starts, place, or_nowhere}
-use Rattle.lower.specs.Cutting.{piece_of, pieces}
-use Rattle.lower.specs.Lowering.{lower_block}
+use Rattle.lift_blocks.specs.Operations.{Operation, operation_at}
+use Rattle.lift_blocks.specs.Listed.{Lifted, IsLifted, entry_places, target_at, aimed_places, ends_at, starts, place, or_nowhere}
+use Rattle.lower.specs.Cutting.{block_pieces, groups, pieces, first_piece}
+use Rattle.lower.specs.Lowering.{is_call, lower_block}
 use Rattle.lower.specs.Laws.{BlocksAreAll, EntriesBegin, BlocksStand}
 
--- pieces have the operations of their blocks
-pieces_ops : (ws : List (List (Operation ℕ))) → map (λ p. p.ops) (map piece_of ws) ≡ ws
-pieces_ops [] = refl
-pieces_ops (w ∷ ws) = ap (λ l. w ∷ l) (pieces_ops ws)
+-- the pieces of blocks have their operations
+pub groups_ops : (needed : List ℕ) (ws : List (List (Operation ℕ))) → map all_ops (map (block_pieces needed) ws) ≡ ws
+groups_ops needed [] = refl
+groups_ops needed (w ∷ ws) = ap (λ l. l ∷ map all_ops (map (block_pieces needed) ws)) (pieces_ops _ _ (parts is_call w) ∙ joined_parts is_call w) ∙ ap (λ l. w ∷ l) (groups_ops needed ws)
 
 -- a mark for each place
 length-starts : (given : Given) (ended : Bool) (ps : List CodePlace) → length (starts given ended ps) ≡ length ps
 length-starts given ended [] = refl
-length-starts given ended (p ∷ ps) = ap suc (length-starts given (ends_block (raw_at given p)) ps)
+length-starts given ended (p ∷ ps) = ap suc (length-starts given (ends_at (operation_at given p)) ps)
 
 -- a mark for each operation
 marks_count : (given : Given) (lifted : Lifted) → IsLifted given lifted → length lifted.begins ≡ length lifted.ops
@@ -34,7 +35,7 @@ marks_count given lifted h = ap length h.begins_are ∙ length-starts given true
 
 -- the blocks together are the operations
 pub blocks_are_all : BlocksAreAll
-blocks_are_all given lifted h = ap joined (pieces_ops (blocks lifted.begins lifted.ops)) ∙ blocks_joined lifted.begins lifted.ops (marks_count given lifted h)
+blocks_are_all given lifted h = group_ops (groups lifted) ∙ ap joined (groups_ops lifted.needed (blocks lifted.begins lifted.ops)) ∙ blocks_joined lifted.begins lifted.ops (marks_count given lifted h)
 
 -- a test or true
 or_true : (b : Bool) → (b || true) ≡ true
@@ -56,11 +57,11 @@ has_there (q ∷ ps) zero p e =
 has_there (q ∷ ps) (suc k) p e = rw (has_there ps k p e) (or_true (same_place p q))
 
 -- what is among one list is among it with another behind
-has_front : (ps qs : List CodePlace) (p : CodePlace) → has ps p ≡ true → has (ps ++ qs) p ≡ true
+pub has_front : (ps qs : List CodePlace) (p : CodePlace) → has ps p ≡ true → has (ps ++ qs) p ≡ true
 has_front ps qs p h = rw (list_any-append (same_place p) ps qs, h) refl
 
 -- or before
-has_back : (ps qs : List CodePlace) (p : CodePlace) → has qs p ≡ true → has (ps ++ qs) p ≡ true
+pub has_back : (ps qs : List CodePlace) (p : CodePlace) → has qs p ≡ true → has (ps ++ qs) p ≡ true
 has_back ps qs p h = rw (list_any-append (same_place p) ps qs, h) (or_true (has ps p))
 
 -- an aimed place begins a block
@@ -69,20 +70,20 @@ starts_at given ended [] t p e h = absurd cc
 starts_at given ended (q ∷ ps) zero p e h =
     let same : q ≡ p = cc in
     rw (same, h) (or_true ended)
-starts_at given ended (q ∷ ps) (suc t) p e h = starts_at given (ends_block (raw_at given q)) ps t p e h
+starts_at given ended (q ∷ ps) (suc t) p e h = starts_at given (ends_at (operation_at given q)) ps t p e h
 
 -- so the block of an aimed place begins with its operation
-begins_at : (given : Given) (lifted : Lifted) → IsLifted given lifted → (t : ℕ) (p : CodePlace) → slice_get lifted.places t ≡ Some p → has (aimed_places given) p ≡ true → op_place (pieces lifted) (block_of lifted.begins t) ≡ t
+begins_at : (given : Given) (lifted : Lifted) → IsLifted given lifted → (t : ℕ) (p : CodePlace) → slice_get lifted.places t ≡ Some p → has (aimed_places given) p ≡ true → op_place (pieces lifted) (first_piece lifted (block_of lifted.begins t)) ≡ t
 begins_at given lifted h t p e aimed =
     let mark : get_or lifted.begins t false ≡ true = ap (λ bs. get_or bs t false) h.begins_are ∙ starts_at given true lifted.places t p e aimed in
-    ap (λ ws. position ws (block_of lifted.begins t)) (pieces_ops (blocks lifted.begins lifted.ops)) ∙ block_begins lifted.begins lifted.ops t (marks_count given lifted h) mark
+    group_op_place (groups lifted) (block_of lifted.begins t) ∙ ap (λ ws. position ws (block_of lifted.begins t)) (groups_ops lifted.needed (blocks lifted.begins lifted.ops)) ∙ block_begins lifted.begins lifted.ops t (marks_count given lifted h) mark
 
 -- the places of numbers, where their list is known
 place_there : (places these : List CodePlace) (numbers : List ℕ) (k t : ℕ) → map (place places) numbers ≡ these → slice_get numbers k ≡ Some t → slice_get these k ≡ Some (place places t)
 place_there places these numbers k t e at = ap (λ l. slice_get l k) (sym e) ∙ slice_get-map (place places) numbers k ∙ ap (option_map (place places)) at
 
 -- a number whose place is aimed at begins a block
-number_begins : (given : Given) (lifted : Lifted) → IsLifted given lifted → (t : ℕ) → t < length lifted.places → has (aimed_places given) (place lifted.places t) ≡ true → op_place (pieces lifted) (block_of lifted.begins t) ≡ t
+pub number_begins : (given : Given) (lifted : Lifted) → IsLifted given lifted → (t : ℕ) → t < length lifted.places → has (aimed_places given) (place lifted.places t) ≡ true → op_place (pieces lifted) (first_piece lifted (block_of lifted.begins t)) ≡ t
 number_begins given lifted h t stands aimed =
     let p = get_or lifted.places t Nowhere in
     let there : slice_get lifted.places t ≡ Some p = slice_get-get_or lifted.places t Nowhere stands in
@@ -91,7 +92,7 @@ number_begins given lifted h t stands aimed =
 
 -- the places that jumps and branches lead to
 abbrev targets : Given → List CodePlace
-targets given = filter_map (λ p. target_of p (raw_at given p)) (all_places given)
+targets given = filter_map (target_at given) (all_places given)
 
 -- an entry begins a block
 pub entries_begin : EntriesBegin
@@ -101,7 +102,7 @@ entries_begin given lifted h entry t e =
     number_begins given lifted h t (h.entries_stand entry t e) (has_front (entry_places given ++ targets given) (needed_places given) p (has_front (entry_places given) (targets given) p named))
 
 -- a place of the address map begins a block
-pub needed_begin : (given : Given) (lifted : Lifted) → IsLifted given lifted → (i t : ℕ) → slice_get lifted.needed i ≡ Some t → op_place (pieces lifted) (block_of lifted.begins t) ≡ t
+pub needed_begin : (given : Given) (lifted : Lifted) → IsLifted given lifted → (i t : ℕ) → slice_get lifted.needed i ≡ Some t → op_place (pieces lifted) (first_piece lifted (block_of lifted.begins t)) ≡ t
 needed_begin given lifted h i t e =
     let p = place lifted.places t in
     let named = has_there (needed_places given) i p (place_there lifted.places (needed_places given) lifted.needed i t h.needed_are e) in
@@ -115,4 +116,4 @@ blocks_stand given lifted h t lt =
     let c = h.count in
     let stands : k < length all = block_stands lifted.begins lifted.ops t (marks_count given lifted h) (omega arith) in
     let b = get_or all k [] in
-    (lower_block lifted.begins b, slice_get-map (lower_block lifted.begins) all k ∙ ap (option_map (lower_block lifted.begins)) (slice_get-get_or all k [] stands))
+    (lower_block lifted.needed lifted.begins b, slice_get-map (lower_block lifted.needed lifted.begins) all k ∙ ap (option_map (lower_block lifted.needed lifted.begins)) (slice_get-get_or all k [] stands))

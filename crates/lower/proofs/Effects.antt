@@ -1,5 +1,5 @@
 -- The instructions of an operation do what it does.
-use Rattle.std.proofs.Common.{◌≡◌, ℕ, ◌+◌, ◌-◌, ◌%◌, ◌^◌, ◌<◌, ◌≤◌, Bool, true, false, ℤ, List, [], ◌∷◌, length, Option, Some, None, refl, sym, ap, ◌∙◌, subst, arith}
+use Rattle.std.proofs.Common.{◌≡◌, ℕ, ◌-◌, ◌^◌, ◌<◌, ◌≤◌, Bool, true, false, ℤ, List, [], ◌∷◌, length, Option, Some, None, refl, sym, ap, ◌∙◌, subst, arith}
 use Rattle.std.specs.Prelude.{nat_eq, if◌then◌else◌}
 use Rattle.std.proofs.lemmas.List.{get_or-set_same, set-set}
 use Rattle.numbers.specs.Words.{word_of}
@@ -19,10 +19,10 @@ use Rattle.runs.specs.Machine.{Outcome, Next, Ends}
 use Rattle.runs.specs.Numbers.{halt_address, named, to_named, jump_by}
 use Rattle.runs.specs.Pieces.{NoCall, GoodOutcome}
 use Rattle.machine_state.specs.State.{State, register, with_register, IsState}
-use Rattle.machine_state.specs.Ends.{End, Host, rules}
+use Rattle.machine_state.specs.Ends.{End, halt, panic}
 use Rattle.machine_state.proofs.Registers.{registers_stay, register_fits}
 use Rattle.lift_blocks.specs.Arithmetic.{of_alu_imm, of_alu}
-use Rattle.lift_blocks.specs.Operations.{Operation, Plain, Jalr}
+use Rattle.lift_blocks.specs.Operations.{Plain}
 use Rattle.lift_blocks.specs.Step.{plain_does}
 use Rattle.pvm_ops.specs.declared.instr.Instr.{Instr}
 use Rattle.pvm_machine.specs.Effect.{effect}
@@ -32,7 +32,7 @@ use Rattle.lower.specs.Plain.{alu_imm_opcode, alu_opcode, with_second_zero, with
 use Rattle.lower.proofs.Rows.{sum_zero_r, sub_zero_r, or_zero, xor_zero, shlo_l_zero_r, shlo_r_zero_r, shar_r_zero_r, and_zero, mul_zero_r, upper_s_s_zero_r, upper_s_u_zero_r, upper_u_u_zero_r, mul_32_zero_r, less_zero, sub_32_zero_r, rem_32_zero_r, shlo_l_32_zero_r, shlo_r_32_zero_r, shar_r_32_zero_r, sum_zero_l, zero_shlo_l, zero_shlo_r, zero_shar_r, zero_mul, zero_upper_s_s, zero_upper_s_u, zero_upper_u_u, zero_mul_32, zero_add_32, zero_rem_s, zero_rem_u, zero_rem_s_32, zero_rem_u_32, zero_shlo_l_32, zero_shlo_r_32, zero_shar_r_32, zero_div_u, zero_div_s, zero_div_u_32, zero_div_s_32}
 use Rattle.lower.proofs.Accesses.{lowers_load, lowers_store}
 use Rattle.lower.proofs.Single.{and_no_more, LowersOp, run_alone, few_aimed}
-use Rattle.lower.proofs.Built.{IsReturn, IsBuilt, word_fits, operand_is_signed}
+use Rattle.lower.proofs.Immediates.{word_fits, operand_is_signed}
 
 -- the immediate of an operation is a word
 operand_fits : (op : AluImm) (imm : ℤ) → IsOperand op imm → word_of imm < 2 ^ 64
@@ -50,30 +50,30 @@ thrice s d x f h g small =
     let again = get_or-set_same s.registers d (f x) 0 (omega (arith, g.count)) in
     rw (there, set-set s.registers d x (f x), again, set-set s.registers d (f x) (h (f x))) refl
 
-module _ (host : Host) (needed : List ℕ) where
+module _ (needed : List ℕ) where
   -- a jump to what a number names is no call
-  named_no_call : (o : Option ℕ) (s : State) → NoCall (to_named (rules host) o s)
+  named_no_call : (o : Option ℕ) (s : State) → NoCall (to_named panic o s)
   named_no_call None s = tt
   named_no_call (Some target) s = tt
 
   -- nor is a jump by a number
-  jump_no_call : (number : ℕ) (s : State) → NoCall (jump_by (rules host) needed number s)
+  pub jump_no_call : (number : ℕ) (s : State) → NoCall (jump_by halt panic needed number s)
   jump_no_call number s = by_halt (nat_eq number halt_address)
     where
-      by_halt : (b : Bool) → NoCall (if b then Ends ((rules host).halted s) else to_named (rules host) (named needed number) s)
+      by_halt : (b : Bool) → NoCall (if b then Ends (halt s) else to_named panic (named needed number) s)
       by_halt true = tt
       by_halt false = named_no_call (named needed number) s
 
   -- a jump to what a number names keeps the state
-  named_stays : (o : Option ℕ) (s : State) → IsState s → GoodOutcome IsState (to_named (rules host) o s)
+  named_stays : (o : Option ℕ) (s : State) → IsState s → GoodOutcome IsState (to_named panic o s)
   named_stays None s g = tt
   named_stays (Some target) s g = g
 
   -- and so does a jump by a number
-  jump_stays : (number : ℕ) (s : State) → IsState s → GoodOutcome IsState (jump_by (rules host) needed number s)
+  pub jump_stays : (number : ℕ) (s : State) → IsState s → GoodOutcome IsState (jump_by halt panic needed number s)
   jump_stays number s g = by_halt (nat_eq number halt_address)
     where
-      by_halt : (b : Bool) → GoodOutcome IsState (if b then Ends ((rules host).halted s) else to_named (rules host) (named needed number) s)
+      by_halt : (b : Bool) → GoodOutcome IsState (if b then Ends (halt s) else to_named panic (named needed number) s)
       by_halt true = tt
       by_halt false = named_stays (named needed number) s g
 
@@ -85,36 +85,36 @@ module _ (host : Host) (needed : List ℕ) where
   none_are_few = omega arith
 
   -- an operation that puts a word into a register, where at most three instructions do
-  puts : (op : RvOp) (d : ℕ) (f : State → ℕ) → length (lower_plain op) ≤ 3 → ((s : State) → ◌≡◌ {A = Outcome ℕ State End} (plain_does op s) (put s d (f s))) → ((s : State) → IsState s → f s < 2 ^ 64) → ((s : State) → IsState s → run_alone host needed (lower_plain op) s ≡ put s d (f s)) → LowersOp host needed (Plain op)
+  puts : (op : RvOp) (d : ℕ) (f : State → ℕ) → length (lower_plain op) ≤ 3 → ((s : State) → ◌≡◌ {A = Outcome ℕ State End} (plain_does op s) (put s d (f s))) → ((s : State) → IsState s → f s < 2 ^ 64) → ((s : State) → IsState s → run_alone needed (lower_plain op) s ≡ put s d (f s)) → LowersOp needed (Plain op)
   puts op d f few does_so fits same = record {
     same = λ s g. same s g ∙ sym (does_so s);
-    three = few_aimed host needed (lower_plain op) few;
+    three = few_aimed needed (lower_plain op) few;
     quiet = λ s. subst (λ o. NoCall o) (sym (does_so s)) tt;
     stays = λ s g. subst (λ o. GoodOutcome IsState o) (sym (does_so s)) (registers_stay s d (f s) g (fits s g));
   }
 
   -- one instruction
-  puts_one : (op : RvOp) (i : Instr) (d : ℕ) (f : State → ℕ) → lower_plain op ≡ i ∷ [] → ((s : State) → ◌≡◌ {A = Outcome ℕ State End} (plain_does op s) (put s d (f s))) → ((s : State) → IsState s → f s < 2 ^ 64) → ((s : State) → IsState s → effect host needed 0 i s ≡ put s d (f s)) → LowersOp host needed (Plain op)
+  puts_one : (op : RvOp) (i : Instr) (d : ℕ) (f : State → ℕ) → lower_plain op ≡ i ∷ [] → ((s : State) → ◌≡◌ {A = Outcome ℕ State End} (plain_does op s) (put s d (f s))) → ((s : State) → IsState s → f s < 2 ^ 64) → ((s : State) → IsState s → effect needed 0 i s ≡ put s d (f s)) → LowersOp needed (Plain op)
   puts_one op i d f is does_so fits same =
       let few : length (i ∷ []) ≤ 3 = omega arith in
-      puts op d f (rw is few) does_so fits (λ s g. ap (λ is. run_alone host needed is s) is ∙ and_no_more (effect host needed 0 i s) ∙ same s g)
+      puts op d f (rw is few) does_so fits (λ s g. ap (λ is. run_alone needed is s) is ∙ and_no_more (effect needed 0 i s) ∙ same s g)
 
   -- an operation that does nothing
-  does_nothing : (op : RvOp) → lower_plain op ≡ [] → ((s : State) → ◌≡◌ {A = Outcome ℕ State End} (plain_does op s) (Next s)) → LowersOp host needed (Plain op)
+  does_nothing : (op : RvOp) → lower_plain op ≡ [] → ((s : State) → ◌≡◌ {A = Outcome ℕ State End} (plain_does op s) (Next s)) → LowersOp needed (Plain op)
   does_nothing op is does_so = record {
-    same = λ s g. ap (λ is. run_alone host needed is s) is ∙ sym (does_so s);
-    three = few_aimed host needed (lower_plain op) (rw is none_are_few);
+    same = λ s g. ap (λ is. run_alone needed is s) is ∙ sym (does_so s);
+    three = few_aimed needed (lower_plain op) (rw is none_are_few);
     quiet = λ s. subst (λ o. NoCall o) (sym (does_so s)) tt;
     stays = λ s g. subst (λ o. GoodOutcome IsState o) (sym (does_so s)) g;
   }
 
   -- a constant
-  puts_constant : (op : RvOp) (d x : ℕ) → lower_plain op ≡ load_imm d x ∷ [] → ((s : State) → ◌≡◌ {A = Outcome ℕ State End} (plain_does op s) (put s d x)) → x < 2 ^ 64 → LowersOp host needed (Plain op)
+  puts_constant : (op : RvOp) (d x : ℕ) → lower_plain op ≡ load_imm d x ∷ [] → ((s : State) → ◌≡◌ {A = Outcome ℕ State End} (plain_does op s) (put s d x)) → x < 2 ^ 64 → LowersOp needed (Plain op)
   unfolding effect
   puts_constant op d x is does_so fits = puts_one op (load_imm d x) d (λ s. x) is does_so (λ s g. fits) (λ s g. rw opcode.load_imm refl)
 
   -- what the instruction of an operation on a register and an immediate does
-  immediate_effect : (op : AluImm) (d a x : ℕ) (s : State) → effect host needed 0 (rrx (alu_imm_opcode op) d a x) s ≡ put s d (binary (of_alu_imm op) (register s a) x)
+  immediate_effect : (op : AluImm) (d a x : ℕ) (s : State) → effect needed 0 (rrx (alu_imm_opcode op) d a x) s ≡ put s d (binary (of_alu_imm op) (register s a) x)
   unfolding effect
   immediate_effect Addi d a x s = rw opcode.add_imm_64 refl
   immediate_effect Slti d a x s = rw opcode.set_lt_s_imm refl
@@ -131,7 +131,7 @@ module _ (host : Host) (needed : List ℕ) where
   immediate_effect Sraiw d a x s = rw opcode.shar_r_imm_32 refl
 
   -- and that of an operation on two registers
-  register_effect : (op : Alu) (d a b : ℕ) (s : State) → effect host needed 0 (rrr (alu_opcode op) d a b) s ≡ put s d (binary (of_alu op) (register s a) (register s b))
+  register_effect : (op : Alu) (d a b : ℕ) (s : State) → effect needed 0 (rrr (alu_opcode op) d a b) s ≡ put s d (binary (of_alu op) (register s a) (register s b))
   unfolding effect
   register_effect Add d a b s = rw opcode.add_64 refl
   register_effect Sub d a b s = rw opcode.sub_64 refl
@@ -163,7 +163,7 @@ module _ (host : Host) (needed : List ℕ) where
   register_effect Remuw d a b s = rw opcode.rem_u_32 refl
 
   -- an operation on a register and an immediate, with nothing for a write to x0
-  lowers_immediate : (op : AluImm) (rd rs1 : Reg) (imm : ℤ) → IsOperand op imm → LowersOp host needed (Plain (rv.OpImm op rd rs1 imm))
+  lowers_immediate : (op : AluImm) (rd rs1 : Reg) (imm : ℤ) → IsOperand op imm → LowersOp needed (Plain (rv.OpImm op rd rs1 imm))
   unfolding effect
   lowers_immediate op Zero rs1 imm h = does_nothing (rv.OpImm op Zero rs1 imm) refl (λ s. refl)
   lowers_immediate op (R d) Zero imm h = puts_constant (rv.OpImm op (R d) Zero imm) d (binary (of_alu_imm op) 0 (word_of imm)) refl (λ s. refl) (results_are_words (of_alu_imm op) 0 (word_of imm) (omega arith) (operand_fits op imm h))
@@ -173,22 +173,22 @@ module _ (host : Host) (needed : List ℕ) where
       (λ s g. immediate_effect op d a (word_of imm) s)
 
   -- an operation on a register and x0
-  second_puts : (op : Alu) (i : Instr) (d a : ℕ) → with_second_zero op d a ≡ i ∷ [] → ((s : State) → IsState s → effect host needed 0 i s ≡ put s d (binary (of_alu op) (register s a) 0)) → LowersOp host needed (Plain (rv.Op op (R d) (R a) Zero))
+  second_puts : (op : Alu) (i : Instr) (d a : ℕ) → with_second_zero op d a ≡ i ∷ [] → ((s : State) → IsState s → effect needed 0 i s ≡ put s d (binary (of_alu op) (register s a) 0)) → LowersOp needed (Plain (rv.Op op (R d) (R a) Zero))
   second_puts op i d a is same = puts_one (rv.Op op (R d) (R a) Zero) i d (λ s. binary (of_alu op) (register s a) 0) is (λ s. refl) (λ s g. results_are_words (of_alu op) (register s a) 0 (register_fits s a g) (omega arith)) same
 
-  second_moves : (op : Alu) (d a : ℕ) → with_second_zero op d a ≡ move_reg d a ∷ [] → ((x : ℕ) → x < 2 ^ 64 → binary (of_alu op) x 0 ≡ x) → LowersOp host needed (Plain (rv.Op op (R d) (R a) Zero))
+  second_moves : (op : Alu) (d a : ℕ) → with_second_zero op d a ≡ move_reg d a ∷ [] → ((x : ℕ) → x < 2 ^ 64 → binary (of_alu op) x 0 ≡ x) → LowersOp needed (Plain (rv.Op op (R d) (R a) Zero))
   unfolding effect
   second_moves op d a is law = second_puts op (move_reg d a) d a is (λ s g. rw opcode.move_reg (ap (put s d) (sym (law (register s a) (register_fits s a g)))))
 
-  second_constant : (op : Alu) (d a c : ℕ) → with_second_zero op d a ≡ load_imm d c ∷ [] → ((x : ℕ) → binary (of_alu op) x 0 ≡ c) → LowersOp host needed (Plain (rv.Op op (R d) (R a) Zero))
+  second_constant : (op : Alu) (d a c : ℕ) → with_second_zero op d a ≡ load_imm d c ∷ [] → ((x : ℕ) → binary (of_alu op) x 0 ≡ c) → LowersOp needed (Plain (rv.Op op (R d) (R a) Zero))
   unfolding effect
   second_constant op d a c is law = second_puts op (load_imm d c) d a is (λ s g. rw opcode.load_imm (ap (put s d) (sym (law (register s a)))))
 
-  second_adds : (op : Alu) (d a : ℕ) → with_second_zero op d a ≡ add_imm_32 d a 0 ∷ [] → ((x : ℕ) → binary (of_alu op) x 0 ≡ add_32 x 0) → LowersOp host needed (Plain (rv.Op op (R d) (R a) Zero))
+  second_adds : (op : Alu) (d a : ℕ) → with_second_zero op d a ≡ add_imm_32 d a 0 ∷ [] → ((x : ℕ) → binary (of_alu op) x 0 ≡ add_32 x 0) → LowersOp needed (Plain (rv.Op op (R d) (R a) Zero))
   unfolding effect
   second_adds op d a is law = second_puts op (add_imm_32 d a 0) d a is (λ s g. rw opcode.add_imm_32 (ap (put s d) (sym (law (register s a)))))
 
-  lowers_second_zero : (op : Alu) (d a : ℕ) → LowersOp host needed (Plain (rv.Op op (R d) (R a) Zero))
+  lowers_second_zero : (op : Alu) (d a : ℕ) → LowersOp needed (Plain (rv.Op op (R d) (R a) Zero))
   unfolding effect
   lowers_second_zero Add d a = second_moves Add d a refl sum_zero_r
   lowers_second_zero Sub d a = second_moves Sub d a refl sub_zero_r
@@ -220,34 +220,34 @@ module _ (host : Host) (needed : List ℕ) where
   lowers_second_zero Remuw d a = second_adds Remuw d a refl rem_32_zero_r
 
   -- an operation on x0 and a register
-  first_puts : (op : Alu) (i : Instr) (d b : ℕ) → with_first_zero op d b ≡ i ∷ [] → ((s : State) → IsState s → effect host needed 0 i s ≡ put s d (binary (of_alu op) 0 (register s b))) → LowersOp host needed (Plain (rv.Op op (R d) Zero (R b)))
+  first_puts : (op : Alu) (i : Instr) (d b : ℕ) → with_first_zero op d b ≡ i ∷ [] → ((s : State) → IsState s → effect needed 0 i s ≡ put s d (binary (of_alu op) 0 (register s b))) → LowersOp needed (Plain (rv.Op op (R d) Zero (R b)))
   first_puts op i d b is same = puts_one (rv.Op op (R d) Zero (R b)) i d (λ s. binary (of_alu op) 0 (register s b)) is (λ s. refl) (λ s g. results_are_words (of_alu op) 0 (register s b) (omega arith) (register_fits s b g)) same
 
-  first_moves : (op : Alu) (d b : ℕ) → with_first_zero op d b ≡ move_reg d b ∷ [] → ((x : ℕ) → x < 2 ^ 64 → binary (of_alu op) 0 x ≡ x) → LowersOp host needed (Plain (rv.Op op (R d) Zero (R b)))
+  first_moves : (op : Alu) (d b : ℕ) → with_first_zero op d b ≡ move_reg d b ∷ [] → ((x : ℕ) → x < 2 ^ 64 → binary (of_alu op) 0 x ≡ x) → LowersOp needed (Plain (rv.Op op (R d) Zero (R b)))
   unfolding effect
   first_moves op d b is law = first_puts op (move_reg d b) d b is (λ s g. rw opcode.move_reg (ap (put s d) (sym (law (register s b) (register_fits s b g)))))
 
-  first_constant : (op : Alu) (d b : ℕ) → with_first_zero op d b ≡ load_imm d 0 ∷ [] → ((x : ℕ) → binary (of_alu op) 0 x ≡ 0) → LowersOp host needed (Plain (rv.Op op (R d) Zero (R b)))
+  first_constant : (op : Alu) (d b : ℕ) → with_first_zero op d b ≡ load_imm d 0 ∷ [] → ((x : ℕ) → binary (of_alu op) 0 x ≡ 0) → LowersOp needed (Plain (rv.Op op (R d) Zero (R b)))
   unfolding effect
   first_constant op d b is law = first_puts op (load_imm d 0) d b is (λ s g. rw opcode.load_imm (ap (put s d) (sym (law (register s b)))))
 
   -- a quotient of x0, in two instructions
-  first_divides : (op : Alu) (d b : ℕ) → d < 13 → with_first_zero op d b ≡ set_lt_u_imm d b 1 ∷ neg_add_imm_64 d d 0 ∷ [] → ((x : ℕ) → binary (of_alu op) 0 x ≡ sub_64 0 (set_lt_u x 1)) → LowersOp host needed (Plain (rv.Op op (R d) Zero (R b)))
+  first_divides : (op : Alu) (d b : ℕ) → d < 13 → with_first_zero op d b ≡ set_lt_u_imm d b 1 ∷ neg_add_imm_64 d d 0 ∷ [] → ((x : ℕ) → binary (of_alu op) 0 x ≡ sub_64 0 (set_lt_u x 1)) → LowersOp needed (Plain (rv.Op op (R d) Zero (R b)))
   unfolding effect
   first_divides op d b small is law =
       let few : length (set_lt_u_imm d b 1 ∷ neg_add_imm_64 d d 0 ∷ []) ≤ 3 = omega arith in
       puts (rv.Op op (R d) Zero (R b)) d (λ s. binary (of_alu op) 0 (register s b)) (rw is few) (λ s. refl) (λ s g. results_are_words (of_alu op) 0 (register s b) (omega arith) (register_fits s b g))
-      (λ s g. ap (λ is. run_alone host needed is s) is ∙ rw (opcode.set_lt_u_imm, opcode.neg_add_imm_64) (twice s d (set_lt_u (register s b) 1) (λ x. sub_64 0 x) g small ∙ ap (put s d) (sym (law (register s b)))))
+      (λ s g. ap (λ is. run_alone needed is s) is ∙ rw (opcode.set_lt_u_imm, opcode.neg_add_imm_64) (twice s d (set_lt_u (register s b) 1) (λ x. sub_64 0 x) g small ∙ ap (put s d) (sym (law (register s b)))))
 
   -- and of its low 32 bits, in three
-  first_divides_32 : (op : Alu) (d b : ℕ) → d < 13 → with_first_zero op d b ≡ add_imm_32 d b 0 ∷ set_lt_u_imm d d 1 ∷ neg_add_imm_64 d d 0 ∷ [] → ((x : ℕ) → binary (of_alu op) 0 x ≡ sub_64 0 (set_lt_u (add_32 x 0) 1)) → LowersOp host needed (Plain (rv.Op op (R d) Zero (R b)))
+  first_divides_32 : (op : Alu) (d b : ℕ) → d < 13 → with_first_zero op d b ≡ add_imm_32 d b 0 ∷ set_lt_u_imm d d 1 ∷ neg_add_imm_64 d d 0 ∷ [] → ((x : ℕ) → binary (of_alu op) 0 x ≡ sub_64 0 (set_lt_u (add_32 x 0) 1)) → LowersOp needed (Plain (rv.Op op (R d) Zero (R b)))
   unfolding effect
   first_divides_32 op d b small is law =
       let few : length (add_imm_32 d b 0 ∷ set_lt_u_imm d d 1 ∷ neg_add_imm_64 d d 0 ∷ []) ≤ 3 = omega arith in
       puts (rv.Op op (R d) Zero (R b)) d (λ s. binary (of_alu op) 0 (register s b)) (rw is few) (λ s. refl) (λ s g. results_are_words (of_alu op) 0 (register s b) (omega arith) (register_fits s b g))
-      (λ s g. ap (λ is. run_alone host needed is s) is ∙ rw (opcode.add_imm_32, opcode.set_lt_u_imm, opcode.neg_add_imm_64) (thrice s d (add_32 (register s b) 0) (λ x. set_lt_u x 1) (λ x. sub_64 0 x) g small ∙ ap (put s d) (sym (law (register s b)))))
+      (λ s g. ap (λ is. run_alone needed is s) is ∙ rw (opcode.add_imm_32, opcode.set_lt_u_imm, opcode.neg_add_imm_64) (thrice s d (add_32 (register s b) 0) (λ x. set_lt_u x 1) (λ x. sub_64 0 x) g small ∙ ap (put s d) (sym (law (register s b)))))
 
-  lowers_first_zero : (op : Alu) (d b : ℕ) → d < 13 → LowersOp host needed (Plain (rv.Op op (R d) Zero (R b)))
+  lowers_first_zero : (op : Alu) (d b : ℕ) → d < 13 → LowersOp needed (Plain (rv.Op op (R d) Zero (R b)))
   unfolding effect
   lowers_first_zero Add d b small = first_moves Add d b refl sum_zero_l
   lowers_first_zero Sub d b small = first_puts Sub (neg_add_imm_64 d b 0) d b refl (λ s g. rw opcode.neg_add_imm_64 refl)
@@ -279,7 +279,7 @@ module _ (host : Host) (needed : List ℕ) where
   lowers_first_zero Remuw d b small = first_constant Remuw d b refl zero_rem_u_32
 
   -- an operation on two registers, with nothing for a write to x0
-  lowers_registers : (op : Alu) (rd rs1 rs2 : Reg) → IsReg rd → LowersOp host needed (Plain (rv.Op op rd rs1 rs2))
+  lowers_registers : (op : Alu) (rd rs1 rs2 : Reg) → IsReg rd → LowersOp needed (Plain (rv.Op op rd rs1 rs2))
   unfolding effect
   lowers_registers op Zero rs1 rs2 h = does_nothing (rv.Op op Zero rs1 rs2) refl (λ s. refl)
   lowers_registers op (R d) Zero Zero h = puts_constant (rv.Op op (R d) Zero Zero) d (binary (of_alu op) 0 0) refl (λ s. refl) (results_are_words (of_alu op) 0 0 (omega arith) (omega arith))
@@ -291,33 +291,16 @@ module _ (host : Host) (needed : List ℕ) where
       (λ s g. register_effect op d a b s)
 
   -- each operation that can be lowered alone
-  pub lowers_plain : (op : RvOp) → IsLowerable op → LowersOp host needed (Plain op)
+  pub lowers_plain : (op : RvOp) → IsLowerable op → LowersOp needed (Plain op)
   unfolding effect
   lowers_plain (rv.Lui Zero value) h = does_nothing (rv.Lui Zero value) refl (λ s. refl)
   lowers_plain (rv.Lui (R d) value) h = puts_constant (rv.Lui (R d) value) d (word_of value) refl (λ s. refl) (word_fits value h.1)
   lowers_plain (rv.Auipc Zero value) h = does_nothing (rv.Auipc Zero value) refl (λ s. refl)
   lowers_plain (rv.Auipc (R d) value) h = puts_constant (rv.Auipc (R d) value) d (word_of value) refl (λ s. refl) (word_fits value h.1)
-  lowers_plain (rv.Load width rd rs1 imm) h = lowers_load host needed width rd rs1 imm h.0
-  lowers_plain (rv.Store width rs1 rs2 imm) h = lowers_store host needed width rs1 rs2 imm
+  lowers_plain (rv.Load width rd rs1 imm) h = lowers_load needed width rd rs1 imm h.0
+  lowers_plain (rv.Store width rs1 rs2 imm) h = lowers_store needed width rs1 rs2 imm
   lowers_plain (rv.OpImm op rd rs1 imm) h = lowers_immediate op rd rs1 imm h.2
   lowers_plain (rv.Op op rd rs1 rs2) h = lowers_registers op rd rs1 rs2 h.0
   lowers_plain rv.Fence h = does_nothing rv.Fence refl (λ s. refl)
   lowers_plain rv.Trap h = record { same = λ s g. rw opcode.trap refl; three = omega arith; quiet = λ s. tt; stays = λ s g. tt }
   lowers_plain op h = absurd h
-
-  -- ret
-  lowers_return : (rd rs1 : Reg) (imm : ℤ) (link : ℕ) → IsReturn rd rs1 imm → LowersOp host needed (Jalr rd rs1 imm link)
-  unfolding effect
-  lowers_return Zero (R a) imm link h = record {
-    same = λ s g. rw opcode.jump_ind (and_no_more (jump_by (rules host) needed ((register s a + word_of imm) % 2 ^ 32) s));
-    three = omega arith;
-    quiet = λ s. jump_no_call ((register s a + word_of imm) % 2 ^ 32) s;
-    stays = λ s g. jump_stays ((register s a + word_of imm) % 2 ^ 32) s g;
-  }
-  lowers_return rd rs1 imm link h = absurd h
-
-  -- each operation that is built is lowered to instructions that do the same
-  pub lowers_built : (op : Operation ℕ) → IsBuilt op → LowersOp host needed op
-  lowers_built (Plain op) h = lowers_plain op h
-  lowers_built (Jalr rd rs1 imm link) h = lowers_return rd rs1 imm link h
-  lowers_built op h = absurd h

@@ -29,11 +29,11 @@ use Rattle.pvm_ops.specs.Spelling.{IsShort}
 use Rattle.jump_table.specs.Laws.{IsPlainInstr}
 use Rattle.lower.specs.Instructions.{rx, rr, rrx, rrr, xy, rxy, fallthrough, jump_ind, load_imm, move_reg, add_imm_32, set_lt_u_imm, neg_add_imm_64}
 use Rattle.lower.specs.Plain.{alu_imm_opcode, alu_opcode, load_opcode, load_ind_opcode, store_opcode, store_ind_opcode, store_imm_opcode, store_imm_ind_opcode, with_second_zero, with_first_zero, lower_plain, IsOperand, IsLowerable}
-use Rattle.lower.proofs.Built.{wider, word_fits, operand_is_signed}
+use Rattle.lower.proofs.Immediates.{wider, word_fits, operand_is_signed}
 use Rattle.lower.proofs.Rows.{sum_zero_l, zero_shlo_l, zero_shlo_r, zero_shar_r, zero_shlo_l_32, zero_shlo_r_32, zero_shar_r_32}
 
 -- an immediate of 32 bits is the sign extension of its low 32 bits
-short : (imm : ℤ) → IsSigned 32 imm → IsShort (word_of imm)
+pub short : (imm : ℤ) → IsSigned 32 imm → IsShort (word_of imm)
 short (pos n) h = grind (arith, nat_tests)
 short (negsuc n) h = grind (arith, nat_tests)
 
@@ -112,7 +112,7 @@ fallthrough_is_plain = record {
 }
 
 -- so can an instruction of a form without an offset
-rx_is_plain : (op a x : ℕ) → IsTrue (is_known op) → form_of op ≡ RX → a < 13 → IsShort x → IsPlainInstr (rx op a x)
+pub rx_is_plain : (op a x : ℕ) → IsTrue (is_known op) → form_of op ≡ RX → a < 13 → IsShort x → IsPlainInstr (rx op a x)
 rx_is_plain op a x known is small h = record {
   known = known;
   encodable = record { a = omega arith; b = omega arith; d = omega arith; offset = omega arith; unused = rw is refl; fit = rw is h };
@@ -158,7 +158,7 @@ rxy_is_plain op a x y known is small h g = record {
 pub jump_ind_is_plain : (a : ℕ) (imm : ℤ) → a < 13 → IsSigned 12 imm → IsPlainInstr (jump_ind a (word_of imm))
 jump_ind_is_plain a imm small h = rx_is_plain 50 a (word_of imm) opcode.jump_ind_known opcode.jump_ind_form small (short imm (wider imm h))
 
-load_imm_is_plain : (a x : ℕ) → a < 13 → IsShort x → IsPlainInstr (load_imm a x)
+pub load_imm_is_plain : (a x : ℕ) → a < 13 → IsShort x → IsPlainInstr (load_imm a x)
 load_imm_is_plain a x small h = rx_is_plain 51 a x opcode.load_imm_known opcode.load_imm_form small h
 
 move_reg_is_plain : (d a : ℕ) → d < 13 → a < 13 → IsPlainInstr (move_reg d a)

@@ -2,6 +2,7 @@
 use Rattle.std.proofs.Common.{◌≡◌, ℕ, zero, suc, ◌<◌, Bool, true, false, List, [], ◌∷◌, ◌++◌, length, map, Some, refl, subst, arith}
 use Rattle.std.specs.Prelude.{slice_get}
 use Rattle.std.specs.List.{AllByRecursion}
+use Rattle.runs.specs.Joined.{joined}
 use Rattle.runs.specs.Blocks.{begins_first, with_first, blocks}
 
 -- from each index
@@ -47,3 +48,8 @@ pub blocks_all : {A : Type 0} (P : A → Type 0) (bs : List Bool) (xs : List A) 
 blocks_all P bs [] h = tt
 blocks_all P [] (x ∷ xs) h = tt
 blocks_all P (b ∷ bs) (x ∷ xs) h = with_first_all P (begins_first bs) x (blocks bs xs) h.0 (blocks_all P bs xs h.1)
+
+-- what holds of each element of the lists that elements stand for holds of each of all, one behind the other
+pub all_joined : {A B : Type 0} (P : B → Type 0) (f : A → List B) (Q : A → Type 0) (xs : List A) → ((x : A) → Q x → AllByRecursion P (f x)) → AllByRecursion Q xs → AllByRecursion P (joined (map f xs))
+all_joined P f Q [] h q = tt
+all_joined P f Q (x ∷ xs) h q = all_append P (f x) (joined (map f xs)) (h x q.0) (all_joined P f Q xs h q.1)

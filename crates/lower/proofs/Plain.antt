@@ -1,46 +1,89 @@
 -- The list of blocks can be placed.
-use Rattle.std.proofs.Common.{◌≡◌, ℕ, Bool, List, [], ◌∷◌, map, Some, None, sym, ap, ◌∙◌, subst}
+use Rattle.std.proofs.Common.{◌≡◌, ℕ, ◌<◌, true, List, [], ◌∷◌, ◌++◌, length, map, Option, Some, None, refl, sym, ap, ◌∙◌, subst}
 use Rattle.std.specs.Prelude.{slice_get}
 use Rattle.std.specs.List.{AllByRecursion}
+use Rattle.std.specs.Option.{option_map}
+use Rattle.std.proofs.lemmas.Option.{slice_get_within}
 use Rattle.runs.specs.Joined.{joined}
-use Rattle.runs.specs.Blocks.{blocks}
-use Rattle.symbols.specs.Wanted.{Given}
+use Rattle.runs.specs.Blocks.{blocks, block_of}
 use Rattle.lift_blocks.specs.Operations.{Operation}
-use Rattle.lift_blocks.specs.Listed.{Lifted, IsLifted}
+use Rattle.lift_blocks.specs.Listed.{Lifted}
 use Rattle.pvm_ops.specs.declared.instr.Instr.{Instr}
 use Rattle.pvm_ops.specs.BlockList.{Block}
 use Rattle.jump_table.specs.Assembly.{instrs_of}
-use Rattle.jump_table.specs.Laws.{IsPlainInstr, IsEnded}
-use Rattle.lower.specs.Lowering.{block_instrs, lower_block, lowered_blocks}
-use Rattle.lower.specs.Laws.{LoweredIsPlain}
-use Rattle.lower.proofs.Lists.{all_from_places, all_at, all_append, from_map, IsBlockOf, blocks_all}
-use Rattle.lower.proofs.Built.{IsBuilt, lifted_is_built}
-use Rattle.lower.proofs.Instructions.{block_is_plain, block_is_ended, block_has_no_target}
-
--- each block of a lifted list has operations, and words have them
-pub blocks_are_built : (given : Given) (lifted : Lifted) → IsLifted given lifted → AllByRecursion (IsBlockOf IsBuilt) (blocks lifted.begins lifted.ops)
-blocks_are_built given lifted h = blocks_all IsBuilt lifted.begins lifted.ops (all_from_places IsBuilt lifted.ops (lifted_is_built given lifted h))
+use Rattle.blob_check.specs.Starts.{is_terminator}
+use Rattle.jump_table.specs.Laws.{IsPlaceable, IsBlock}
+use Rattle.lower.specs.Lowering.{aim_of_last, block_instrs, lower_block, lowered_blocks}
+use Rattle.lower.specs.Laws.{IsPlacedBlock, LoweredIsPlaceable}
+use Rattle.lower.proofs.Lists.{all_at, all_append, from_map}
+use Rattle.lower.proofs.Well.{IsWellBlock, blocks_are_well, all_can, last_stands}
+use Rattle.lower.proofs.Blocks.{blocks_are_placeable}
+use Rattle.lower.proofs.Begin.{blocks_stand}
 
 -- each instruction of the blocks can be placed
-blocks_are_plain : (begins : List Bool) (ws : List (List (Operation ℕ))) → AllByRecursion (IsBlockOf IsBuilt) ws → AllByRecursion IsPlainInstr (joined (map (λ b. b.instrs) (map (lower_block begins) ws)))
-blocks_are_plain begins [] h = tt
-blocks_are_plain begins (w ∷ ws) h = all_append IsPlainInstr (block_instrs w) (joined (map (λ b. b.instrs) (map (lower_block begins) ws))) (block_is_plain w h.0.0) (blocks_are_plain begins ws h.1)
+all_placeable : (lifted : Lifted) (ws : List (List (Operation ℕ))) → AllByRecursion (IsWellBlock lifted) ws → AllByRecursion IsPlaceable (joined (map (λ b. b.instrs) (map (lower_block lifted.needed lifted.begins) ws)))
+all_placeable lifted [] h = tt
+all_placeable lifted (w ∷ ws) h = all_append IsPlaceable (block_instrs lifted.needed w) (joined (map (λ b. b.instrs) (map (lower_block lifted.needed lifted.begins) ws))) (blocks_are_placeable lifted.needed lifted.begins w (all_can lifted w h.0.each) h.0.front h.0.some).placeable (all_placeable lifted ws h.1)
 
--- no block has a target, and each is ended
-pub lowered_is_plain : LoweredIsPlain
-lowered_is_plain given lifted h = record { instrs = instrs; no_target = no_target; ended = ended }
+-- the last of a list is one
+last_same : (f g : List Instr) (a b : Instr) → f ++ a ∷ [] ≡ g ++ b ∷ [] → a ≡ b
+last_same [] [] a b e = cc
+last_same [] (x ∷ []) a b e = absurd cc
+last_same [] (x ∷ y ∷ g) a b e = absurd cc
+last_same (x ∷ []) [] a b e = absurd cc
+last_same (x ∷ y ∷ f) [] a b e = absurd cc
+last_same (x ∷ f) (y ∷ g) a b e = last_same f g a b cc
+
+-- the list can be placed, and each block is ended
+pub lowered_is_placeable : LoweredIsPlaceable
+lowered_is_placeable given lifted h = (record { instrs = instrs; blocks = each; targets = targets; entries = entries; needed = needed }, ended)
   where
-    instrs : (number : ℕ) (i : Instr) → slice_get (instrs_of (lowered_blocks lifted)) number ≡ Some i → IsPlainInstr i
-    instrs number i e = all_at IsPlainInstr (instrs_of (lowered_blocks lifted)) number i (blocks_are_plain lifted.begins (blocks lifted.begins lifted.ops) (blocks_are_built given lifted h)) e
+    all : List (List (Operation ℕ))
+    all = blocks lifted.begins lifted.ops
 
-    no_target : (block : ℕ) (b : Block) → slice_get (map (lower_block lifted.begins) (blocks lifted.begins lifted.ops)) block ≡ Some b → b.target ≡ None
-    no_target block b e =
-        let from = from_map (lower_block lifted.begins) (blocks lifted.begins lifted.ops) block b e in
-        let built = all_at (IsBlockOf IsBuilt) (blocks lifted.begins lifted.ops) block from.x (blocks_are_built given lifted h) from.there in
-        ap (λ b. b.target) (sym from.is) ∙ block_has_no_target lifted.begins from.x built.0
+    bs : List Block
+    bs = map (lower_block lifted.needed lifted.begins) (blocks lifted.begins lifted.ops)
 
-    ended : (block : ℕ) (b : Block) → slice_get (map (lower_block lifted.begins) (blocks lifted.begins lifted.ops)) block ≡ Some b → IsEnded b.instrs
-    ended block b e =
-        let from = from_map (lower_block lifted.begins) (blocks lifted.begins lifted.ops) block b e in
-        let built = all_at (IsBlockOf IsBuilt) (blocks lifted.begins lifted.ops) block from.x (blocks_are_built given lifted h) from.there in
-        subst (λ b. IsEnded b.instrs) from.is (block_is_ended from.x built.0 built.1)
+    instrs : (number : ℕ) (i : Instr) → slice_get (instrs_of (lowered_blocks lifted)) number ≡ Some i → IsPlaceable i
+    instrs number i e = all_at IsPlaceable (instrs_of (lowered_blocks lifted)) number i (all_placeable lifted (blocks lifted.begins lifted.ops) (blocks_are_well given lifted h)) e
+
+    well : (block : ℕ) (b : Block) → slice_get bs block ≡ Some b → (ops : List (Operation ℕ)) × (lower_block lifted.needed lifted.begins ops ≡ b) × IsWellBlock lifted ops
+    well block b e =
+        let from = from_map (lower_block lifted.needed lifted.begins) all block b e in
+        (from.x, from.is, all_at (IsWellBlock lifted) all block from.x (blocks_are_well given lifted h) from.there)
+
+    own : (ops : List (Operation ℕ)) → IsWellBlock lifted ops → IsPlacedBlock (block_instrs lifted.needed ops) (option_map (block_of lifted.begins) (aim_of_last lifted.needed ops))
+    own ops w = blocks_are_placeable lifted.needed lifted.begins ops (all_can lifted ops w.each) w.front w.some
+
+    each : (block : ℕ) (b : Block) → slice_get bs block ≡ Some b → IsBlock b
+    each block b e = let there = well block b e in subst (λ b. IsBlock b) there.1 (own there.0 there.2).block
+
+    ended : (block : ℕ) (b : Block) (front : List Instr) (last : Instr) → slice_get bs block ≡ Some b → b.instrs ≡ front ++ last ∷ [] → is_terminator last.op ≡ true
+    ended block b front last e f =
+        let there = well block b e in
+        let placed = own there.0 there.2 in
+        let same : placed.block.last ≡ last = last_same placed.block.front front placed.block.last last (sym placed.block.is ∙ ap (λ b. b.instrs) there.1 ∙ f) in
+        rw (← same) placed.terminator
+
+    -- the block of an operation is one of them
+    stands : (t : ℕ) → t < length lifted.places → block_of lifted.begins t < length bs
+    stands t lt = let b = blocks_stand given lifted h t lt in slice_get_within bs (block_of lifted.begins t) b.0 b.1
+
+    of_some : (o : Option ℕ) (target : ℕ) → ((t : ℕ) → o ≡ Some t → t < length lifted.places) → option_map (block_of lifted.begins) o ≡ Some target → target < length bs
+    of_some None target each e = absurd cc
+    of_some (Some t) target each e = let same : block_of lifted.begins t ≡ target = cc in rw (← same) (stands t (each t refl))
+
+    targets : (block target : ℕ) (b : Block) → slice_get bs block ≡ Some b → b.target ≡ Some target → target < length bs
+    targets block target b e f =
+        let there = well block b e in
+        of_some (aim_of_last lifted.needed there.0) target (λ t g. last_stands lifted there.0 t there.2.each g) (ap (λ b. b.target) there.1 ∙ f)
+
+    entries : (entry block : ℕ) → slice_get (map (block_of lifted.begins) lifted.entries) entry ≡ Some block → block < length bs
+    entries entry block e =
+        let from = from_map (block_of lifted.begins) lifted.entries entry block e in
+        rw (← from.is) (stands from.x (h.entries_stand entry from.x from.there))
+
+    needed : (place block : ℕ) → slice_get (map (block_of lifted.begins) lifted.needed) place ≡ Some block → block < length bs
+    needed place block e =
+        let from = from_map (block_of lifted.begins) lifted.needed place block e in
+        rw (← from.is) (stands from.x (h.needed_stand place from.x from.there))

@@ -1,56 +1,98 @@
--- The pieces and the list of blocks have the same instructions in the same places.
-use Rattle.std.proofs.Common.{◌≡◌, ℕ, zero, suc, ◌+◌, Bool, List, [], ◌∷◌, ◌++◌, length, map, refl, sym, ap, ◌∙◌}
+-- The pieces and the list of blocks have the same instructions, with the same targets, in the same places.
+use Rattle.std.proofs.Common.{◌≡◌, ℕ, zero, suc, ◌+◌, Bool, List, [], ◌∷◌, ◌++◌, length, map, Option, refl, sym, ap, ◌∙◌, append_assoc}
+use Rattle.std.specs.Option.{option_map}
 use Rattle.std.proofs.lemmas.List.{map-append, length-map}
 use Rattle.runs.specs.Joined.{joined, position}
-use Rattle.runs.specs.Blocks.{blocks}
-use Rattle.runs.specs.Pieces.{lowered}
+use Rattle.runs.specs.Blocks.{blocks, block_of}
+use Rattle.runs.specs.Pieces.{lowered, all_instrs}
+use Rattle.runs.specs.Groups.{parts}
+use Rattle.runs.proofs.Groups.{joined_parts, pieces_instrs, group_instrs, group_instr_place}
 use Rattle.lift_blocks.specs.Operations.{Operation}
 use Rattle.pvm_ops.specs.declared.instr.Instr.{Instr}
-use Rattle.lower.specs.Lowering.{lower_op, tail_of, aim_of, block_instrs, lower_block}
-use Rattle.lower.specs.Cutting.{Aimed, or_zero, aimed_op, aimed_tail, piece_of}
-use Rattle.lower.specs.Laws.{SameInstrs, SamePlaces}
+use Rattle.jump_table.specs.Assembly.{Member, members, groups as member_groups}
+use Rattle.lower.specs.Lowering.{lower_op, tail_of, aim_of_last, is_call, part_instrs, block_instrs, lower_block}
+use Rattle.lower.specs.Cutting.{Aimed, aimed, block_pieces, groups}
+use Rattle.lower.specs.Laws.{InBlock, SameInstrs, SamePlaces}
 
--- instructions without their targets
-abbrev pub plain : List Aimed → List Instr
-plain is = map (λ (i : Aimed). i.instr) is
+-- the instructions of operations, one behind the other
+pub lowered_append : {Instr : Type 0} (lower : Operation ℕ → List Instr) (a b : List (Operation ℕ)) → lowered lower (a ++ b) ≡ lowered lower a ++ lowered lower b
+lowered_append lower [] b = refl
+lowered_append lower (op ∷ a) b = ap (λ l. lower op ++ l) (lowered_append lower a b) ∙ sym (append_assoc (lower op) (lowered lower a) (lowered lower b))
 
--- with one target for all
-unaimed : (target : ℕ) (is : List Instr) → plain (map (λ i. record { instr = i; target = target }) is) ≡ is
-unaimed target [] = refl
-unaimed target (i ∷ is) = ap (λ l. i ∷ l) (unaimed target is)
+-- two lists with one target
+pub aimed_append : (target : Option ℕ) (is js : List Instr) → aimed target (is ++ js) ≡ aimed target is ++ aimed target js
+aimed_append target is js = map-append (λ i. record { instr = i; target = target }) is js
 
--- of two lists, one behind the other
-plain_append : (is js : List Aimed) → plain (is ++ js) ≡ plain is ++ plain js
-plain_append is js = map-append (λ (i : Aimed). i.instr) is js
+-- as many
+pub aimed_length : (target : Option ℕ) (is : List Instr) → length (aimed target is) ≡ length is
+aimed_length target is = length-map is (λ i. record { instr = i; target = target })
 
--- the instructions of operations
-same_lowered : (ops : List (Operation ℕ)) → plain (lowered aimed_op ops) ≡ lowered lower_op ops
-same_lowered [] = refl
-same_lowered (op ∷ ops) = plain_append (aimed_op op) (lowered aimed_op ops) ∙ ap (λ l. l ++ plain (lowered aimed_op ops)) (unaimed (or_zero (aim_of op)) (lower_op op)) ∙ ap (λ l. lower_op op ++ l) (same_lowered ops)
+module _ (needed : List ℕ) where
+  -- those of the parts are those of all
+  parts_instrs : (ws : List (List (Operation ℕ))) → joined (map (part_instrs needed) ws) ≡ lowered (lower_op needed) (joined ws)
+  parts_instrs [] = refl
+  parts_instrs (w ∷ ws) = ap (λ l. lowered (lower_op needed) w ++ l) (parts_instrs ws) ∙ sym (lowered_append (lower_op needed) w (joined ws))
 
--- a piece has the instructions of its block
-same_block : (ops : List (Operation ℕ)) → plain (piece_of ops).instrs ≡ block_instrs ops
-same_block ops = plain_append (lowered aimed_op ops) (aimed_tail ops) ∙ ap (λ l. l ++ plain (aimed_tail ops)) (same_lowered ops) ∙ ap (λ l. lowered lower_op ops ++ l) (unaimed 0 (tail_of ops))
+  -- so far a block's instructions are those of its operations, and its tail
+  pub block_instrs_are : (ops : List (Operation ℕ)) → block_instrs needed ops ≡ lowered (lower_op needed) ops ++ tail_of ops
+  block_instrs_are ops = ap (λ l. l ++ tail_of ops) (parts_instrs (parts is_call ops) ∙ ap (lowered (lower_op needed)) (joined_parts is_call ops))
 
--- and as many
-pub same_length : (ops : List (Operation ℕ)) → length (piece_of ops).instrs ≡ length (block_instrs ops)
-same_length ops = sym (length-map (piece_of ops).instrs (λ (i : Aimed). i.instr)) ∙ ap length (same_block ops)
+  -- many lists
+  aimed_joined : (target : Option ℕ) (ws : List (List (Operation ℕ))) → joined (map (λ part. aimed target (part_instrs needed part)) ws) ≡ aimed target (joined (map (part_instrs needed) ws))
+  aimed_joined target [] = refl
+  aimed_joined target (w ∷ ws) = ap (λ l. aimed target (part_instrs needed w) ++ l) (aimed_joined target ws) ∙ sym (aimed_append target (part_instrs needed w) (joined (map (part_instrs needed) ws)))
 
--- the instructions of all blocks
-same_blocks : (begins : List Bool) (ws : List (List (Operation ℕ))) → plain (joined (map (λ p. p.instrs) (map piece_of ws))) ≡ joined (map (λ b. b.instrs) (map (lower_block begins) ws))
-same_blocks begins [] = refl
-same_blocks begins (w ∷ ws) = plain_append (piece_of w).instrs (joined (map (λ p. p.instrs) (map piece_of ws))) ∙ ap (λ l. l ++ plain (joined (map (λ p. p.instrs) (map piece_of ws)))) (same_block w) ∙ ap (λ l. block_instrs w ++ l) (same_blocks begins ws)
+  -- the pieces of a block have its instructions
+  same_block : (ops : List (Operation ℕ)) → all_instrs (block_pieces needed ops) ≡ aimed (aim_of_last needed ops) (block_instrs needed ops)
+  same_block ops =
+      pieces_instrs _ _ (parts is_call ops)
+      ∙ ap (λ l. l ++ aimed (aim_of_last needed ops) (tail_of ops)) (aimed_joined (aim_of_last needed ops) (parts is_call ops))
+      ∙ sym (aimed_append (aim_of_last needed ops) (joined (map (part_instrs needed) (parts is_call ops))) (tail_of ops))
 
--- where a block begins among them
-same_position : (begins : List Bool) (ws : List (List (Operation ℕ))) (k : ℕ) → position (map (λ p. p.instrs) (map piece_of ws)) k ≡ position (map (λ b. b.instrs) (map (lower_block begins) ws)) k
-same_position begins [] k = refl
-same_position begins (w ∷ ws) zero = refl
-same_position begins (w ∷ ws) (suc k) = ap (λ n. n + position (map (λ p. p.instrs) (map piece_of ws)) k) (same_length w) ∙ ap (λ n. length (block_instrs w) + n) (same_position begins ws k)
+  same_length : (ops : List (Operation ℕ)) → length (all_instrs (block_pieces needed ops)) ≡ length (block_instrs needed ops)
+  same_length ops = ap length (same_block ops) ∙ aimed_length (aim_of_last needed ops) (block_instrs needed ops)
+
+  module _ (begins : List Bool) where
+    abbrev of_aimed : List Aimed → List InBlock
+    of_aimed is = map (λ i. record { instr = i.instr; target = option_map (block_of begins) i.target }) is
+
+    abbrev of_members : List Member → List InBlock
+    of_members ms = map (λ m. record { instr = m.instr; target = m.target }) ms
+
+    -- one list of instructions
+    same_list : (len : ℕ) (target : Option ℕ) (is : List Instr) → of_aimed (aimed target is) ≡ of_members (map (λ i. record { instr = i; len = len; target = option_map (block_of begins) target }) is)
+    same_list len target [] = refl
+    same_list len target (i ∷ is) = ap (λ l. record { instr = i; target = option_map (block_of begins) target } ∷ l) (same_list len target is)
+
+    same_members : (len : ℕ) (ops : List (Operation ℕ)) → of_aimed (all_instrs (block_pieces needed ops)) ≡ of_members (members len (lower_block needed begins ops))
+    same_members len ops = ap of_aimed (same_block ops) ∙ same_list len (aim_of_last needed ops) (block_instrs needed ops)
+
+    -- one block and more
+    same_next : (len : ℕ) (lengths : List ℕ) (w : List (Operation ℕ)) (ws : List (List (Operation ℕ)))
+        → of_aimed (joined (map all_instrs (map (block_pieces needed) ws))) ≡ of_members (joined (member_groups lengths (map (lower_block needed begins) ws)))
+        → of_aimed (all_instrs (block_pieces needed w) ++ joined (map all_instrs (map (block_pieces needed) ws))) ≡ of_members (members len (lower_block needed begins w) ++ joined (member_groups lengths (map (lower_block needed begins) ws)))
+    same_next len lengths w ws e =
+        map-append _ (all_instrs (block_pieces needed w)) (joined (map all_instrs (map (block_pieces needed) ws)))
+        ∙ ap (λ l. l ++ of_aimed (joined (map all_instrs (map (block_pieces needed) ws)))) (same_members len w)
+        ∙ ap (λ l. of_members (members len (lower_block needed begins w)) ++ l) e
+        ∙ sym (map-append _ (members len (lower_block needed begins w)) (joined (member_groups lengths (map (lower_block needed begins) ws))))
+
+    -- the instructions of all blocks
+    same_blocks : (lengths : List ℕ) (ws : List (List (Operation ℕ))) → of_aimed (joined (map all_instrs (map (block_pieces needed) ws))) ≡ of_members (joined (member_groups lengths (map (lower_block needed begins) ws)))
+    same_blocks lengths [] = refl
+    same_blocks [] (w ∷ ws) = same_next 0 [] w ws (same_blocks [] ws)
+    same_blocks (len ∷ lengths) (w ∷ ws) = same_next len lengths w ws (same_blocks lengths ws)
+
+  -- where a block begins among them
+  same_position : (begins : List Bool) (ws : List (List (Operation ℕ))) (k : ℕ) → position (map all_instrs (map (block_pieces needed) ws)) k ≡ position (map (λ b. b.instrs) (map (lower_block needed begins) ws)) k
+  same_position begins [] k = refl
+  same_position begins (w ∷ ws) zero = refl
+  same_position begins (w ∷ ws) (suc k) = ap (λ n. n + position (map all_instrs (map (block_pieces needed) ws)) k) (same_length w) ∙ ap (λ n. length (block_instrs needed w) + n) (same_position begins ws k)
 
 -- the same instructions
 pub same_instrs : SameInstrs
-same_instrs lifted = same_blocks lifted.begins (blocks lifted.begins lifted.ops)
+same_instrs lengths lifted = ap (of_aimed lifted.needed lifted.begins) (group_instrs (groups lifted)) ∙ same_blocks lifted.needed lifted.begins lengths (blocks lifted.begins lifted.ops)
 
 -- in the same places
 pub same_places : SamePlaces
-same_places lifted block = same_position lifted.begins (blocks lifted.begins lifted.ops) block
+same_places lifted block = group_instr_place (groups lifted) block ∙ same_position lifted.needed lifted.begins (blocks lifted.begins lifted.ops) block

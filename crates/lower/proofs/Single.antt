@@ -1,11 +1,11 @@
 -- An operation that is lowered to one instruction.
-use Rattle.std.proofs.Common.{◌≡◌, ℕ, ◌≤◌, List, [], ◌∷◌, length, map, refl, ap, ◌∙◌, arith}
+use Rattle.std.proofs.Common.{◌≡◌, ℕ, ◌≤◌, List, [], ◌∷◌, length, map, None, refl, ap, ◌∙◌, arith}
 use Rattle.std.proofs.lemmas.List.{length-map}
 use Rattle.rv_decode.specs.declared.ops.RvOp.{RvOp}
 use Rattle.runs.specs.Machine.{Outcome, Next, Jump, Call, Ends, and_then, does}
 use Rattle.runs.specs.Pieces.{NoCall, GoodOutcome, Lowers}
 use Rattle.machine_state.specs.State.{State, IsState}
-use Rattle.machine_state.specs.Ends.{End, Host}
+use Rattle.machine_state.specs.Ends.{End}
 use Rattle.lift_blocks.specs.Operations.{Operation, Plain}
 use Rattle.lift_blocks.specs.Step.{plain_does, op_does}
 use Rattle.pvm_ops.specs.declared.instr.Instr.{Instr}
@@ -22,16 +22,16 @@ and_no_more (Ends f) = refl
 
 -- an instruction without an offset
 abbrev pub aimed_at_none : Instr → Aimed
-aimed_at_none i = record { instr = i; target = 0 }
+aimed_at_none i = record { instr = i; target = None }
 
-module _ (host : Host) (needed : List ℕ) where
+module _ (needed : List ℕ) where
   -- the instructions of an operation do what it does
   abbrev pub LowersOp : Operation ℕ → Type 0
-  LowersOp op = Lowers (op_does host needed) (instr_does host needed) IsState aimed_op op
+  LowersOp op = Lowers (op_does needed) (instr_does needed) IsState (aimed_op needed) op
 
   -- what instructions without an offset do
   abbrev pub run_alone : List Instr → State → Outcome ℕ State End
-  run_alone is s = does (instr_does host needed) (map aimed_at_none is) s
+  run_alone is s = does (instr_does needed) (map aimed_at_none is) s
 
   -- as many instructions with their targets
   pub few_aimed : (is : List Instr) → length is ≤ 3 → length (map aimed_at_none is) ≤ 3
@@ -40,14 +40,14 @@ module _ (host : Host) (needed : List ℕ) where
   -- an instruction that does what the operation does
   pub lowers_one :
       (op : RvOp) (i : Instr) → lower_plain op ≡ i ∷ []
-      → ((s : State) → IsState s → effect host needed 0 i s ≡ plain_does op s)
+      → ((s : State) → IsState s → effect needed 0 i s ≡ plain_does op s)
       → ((s : State) → NoCall (plain_does {Target = ℕ} op s))
       → ((s : State) → IsState s → GoodOutcome IsState (plain_does {Target = ℕ} op s))
       → LowersOp (Plain op)
   lowers_one op i is same quiet stays =
       let few : length (i ∷ []) ≤ 3 = omega arith in
       record {
-        same = λ s g. ap (λ is. run_alone is s) is ∙ and_no_more (effect host needed 0 i s) ∙ same s g;
+        same = λ s g. ap (λ is. run_alone is s) is ∙ and_no_more (effect needed 0 i s) ∙ same s g;
         three = few_aimed (lower_plain op) (rw is few);
         quiet = quiet;
         stays = stays;

@@ -24,6 +24,23 @@ xy op x y = record { op = op; a = 0; b = 0; d = 0; x = x; y = y }
 abbrev pub rxy : ℕ → ℕ → ℕ → ℕ → Instr
 rxy op a x y = record { op = op; a = a; b = 0; d = 0; x = x; y = y }
 
+-- two registers and an offset
+abbrev pub rro : ℕ → ℕ → ℕ → Instr
+rro op a b = record { op = op; a = a; b = b; d = 0; x = 0; y = 0 }
+
+-- a register, an immediate and an offset
+abbrev pub rxo : ℕ → ℕ → ℕ → Instr
+rxo op a x = record { op = op; a = a; b = 0; d = 0; x = x; y = 0 }
+
+abbrev pub jump : Instr
+jump = record { op = 40; a = 0; b = 0; d = 0; x = 0; y = 0 }
+
+abbrev pub load_imm_jump : ℕ → ℕ → Instr
+load_imm_jump a x = rxo 80 a x
+
+abbrev pub load_imm_jump_ind : ℕ → ℕ → ℕ → ℕ → Instr
+load_imm_jump_ind a b x y = record { op = 180; a = a; b = b; d = 0; x = x; y = y }
+
 abbrev pub fallthrough : Instr
 fallthrough = record { op = 1; a = 0; b = 0; d = 0; x = 0; y = 0 }
 

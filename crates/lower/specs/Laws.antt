@@ -1,25 +1,30 @@
 -- The laws of lowering that the link rests on.
-use Rattle.std.specs.Prelude.{◌≡◌, ℕ, ◌<◌, List, length, map, Some, slice_get}
+use Rattle.std.specs.Prelude.{◌≡◌, ℕ, ◌<◌, ◌^◌, List, [], ◌∷◌, length, map, Bool, true, false, Option, Some, slice_get}
+use Rattle.std.specs.Option.{option_map}
+use Rattle.std.specs.List.{AllByRecursion}
 use Rattle.rv_decode.specs.declared.ops.RvOp.{RvOp}
 use Rattle.rv_decode.specs.declared.ops.RvOp.TheVariants as rv
-use Rattle.rv_decode.specs.Operations.{IsOp}
+use Rattle.rv_decode.specs.Operations.{IsOp, IsReg, IsSigned}
 use Rattle.runs.specs.Machine.{Outcome, does}
 use Rattle.runs.specs.Blocks.{block_of}
-use Rattle.runs.specs.Pieces.{Cut, GoodTurn, Lowers, all_ops, all_instrs, op_place, instr_place}
+use Rattle.runs.specs.Pieces.{Cut, Carries, Lowers, all_ops, all_instrs, op_place, instr_place}
 use Rattle.machine_state.specs.State.{State, IsState}
-use Rattle.machine_state.specs.Ends.{End, Host, rules}
+use Rattle.machine_state.specs.Ends.{End}
 use Rattle.symbols.specs.Wanted.{Given}
-use Rattle.lift_blocks.specs.Operations.{Plain}
+use Rattle.rv_decode.specs.declared.ops.Reg.{Reg}
+use Rattle.rv_decode.specs.declared.ops.Reg.TheVariants.{Zero, R}
+use Rattle.lift_blocks.specs.Operations.{Operation, Plain, Branch, Jal, Jalr, Pair, HostCall, Sbrk}
 use Rattle.lift_blocks.specs.Step.{plain_does, op_does}
-use Rattle.lift_blocks.specs.Listed.{Lifted, IsLifted}
-use Rattle.jump_table.specs.Assembly.{instrs_of, first_of}
-use Rattle.jump_table.specs.Laws.{IsPlain}
+use Rattle.lift_blocks.specs.Listed.{Lifted, IsLifted, ends_block}
+use Rattle.jump_table.specs.Assembly.{members_of, first_of}
+use Rattle.blob_check.specs.Starts.{is_terminator}
+use Rattle.jump_table.specs.Laws.{IsPlaceable, IsBlock, IsAssemblable, AreEnded}
 use Rattle.pvm_ops.specs.declared.instr.Instr.{Instr}
 use Rattle.pvm_ops.specs.BlockList.{Block}
 use Rattle.pvm_machine.specs.Effect.{effect}
 use Rattle.lower.specs.Plain.{IsLowerable}
-use Rattle.lower.specs.Lowering.{lowered_blocks}
-use Rattle.lower.specs.Cutting.{aimed_op, pieces, instr_does, instr_places}
+use Rattle.lower.specs.Lowering.{lower_op, aim_of, aim_of_last, block_instrs, lowered_blocks}
+use Rattle.lower.specs.Cutting.{aimed_op, block_pieces, pieces, first_piece, instr_does, instr_places}
 
 -- the operation of a word can be lowered alone, unless it is a jump or a branch
 abbrev pub IsLowerableUnlessJump : RvOp → Type 0
@@ -34,22 +39,73 @@ WordsAreLowerable = (op : RvOp) → IsOp op → IsLowerableUnlessJump op
 -- from every good state these instructions lead where the operation leads
 abbrev pub HasEffect : RvOp → List Instr → Type 0
 HasEffect op is =
-    (host : Host) (needed : List ℕ) (s : State) → IsState s
-    → ◌≡◌ {A = Outcome ℕ State End} (does (effect host needed 0) is s) (plain_does op s)
+    (needed : List ℕ) (s : State) → IsState s
+    → ◌≡◌ {A = Outcome ℕ State End} (does (effect needed 0) is s) (plain_does op s)
 
 -- The instructions of an operation that can be lowered alone do what it does, are three at most, and keep the state good.
 abbrev pub OperationsAreLowered : Type 0
 OperationsAreLowered =
-    (host : Host) (needed : List ℕ) (op : RvOp) → IsLowerable op
-    → Lowers (op_does host needed) (instr_does host needed) IsState aimed_op (Plain op)
+    (needed : List ℕ) (op : RvOp) → IsLowerable op
+    → Lowers (op_does needed) (instr_does needed) IsState (aimed_op needed) (Plain op)
 
--- Each block's instructions do what its operations do, at most four begun for each, and jumps lead to blocks: for any
--- host that answers with 13 registers of 64 bits.
+-- a link that an instruction can hold, if there is one
+abbrev pub IsLink : Reg → ℕ → Type 0
+IsLink Zero link = Unit {0}
+IsLink (R d) link = link < 2 ^ 31
+
+-- an operation that can be lowered: none of a stub, with registers that the PVM has, and links of 31 bits
+abbrev pub CanBeLowered : {Target : Type 0} → Operation Target → Type 0
+CanBeLowered (Plain op) = IsLowerable op
+CanBeLowered (Branch cond rs1 rs2 target) = IsReg rs1 × IsReg rs2
+CanBeLowered (Jal rd link target) = IsReg rd × IsLink rd link
+CanBeLowered (Jalr rd Zero imm link) = IsReg rd × IsSigned 12 imm × IsLink rd link
+CanBeLowered (Jalr rd (R a) imm link) = IsReg rd × (a < 13) × IsSigned 32 imm × IsLink rd link
+CanBeLowered (Pair temp rd link target) = IsReg temp × IsReg rd × IsLink rd link
+CanBeLowered (HostCall number) = ⊥
+CanBeLowered Sbrk = ⊥
+
+-- its instructions, with its target, do what it does, are three at most, and keep the state good
+abbrev pub AllAreLowered : Type 0
+AllAreLowered = (needed : List ℕ) (op : Operation ℕ) → CanBeLowered op → Lowers (op_does needed) (instr_does needed) IsState (aimed_op needed) op
+
+-- The instructions of an operation that ends its block: the last ends it, with an offset where the operation has a target.
+pub record IsEnding (needed : List ℕ) (op : Operation ℕ) : Type 0 where
+  pub block : IsBlock (record { instrs = lower_op needed op; target = aim_of needed op })
+  pub placeable : AllByRecursion IsPlaceable (lower_op needed op)
+  pub terminator : is_terminator block.last.op ≡ true
+
+abbrev pub EndingsArePlaceable : Type 0
+EndingsArePlaceable = (needed : List ℕ) (op : Operation ℕ) → CanBeLowered op → ends_block op ≡ true → IsEnding needed op
+
+-- none but the last operation of a block ends it
+abbrev pub FrontGoesOn : List (Operation ℕ) → Type 0
+FrontGoesOn [] = Unit {0}
+FrontGoesOn (op ∷ []) = Unit {0}
+FrontGoesOn (op ∷ next ∷ ops) = (ends_block op ≡ false) × FrontGoesOn (next ∷ ops)
+
+-- a block of such operations is carried out by its instructions, also where it ends with a branch or a jump
+abbrev pub BlocksAreCarried : Type 0
+BlocksAreCarried =
+    (needed : List ℕ) (ops : List (Operation ℕ)) → AllByRecursion CanBeLowered ops → FrontGoesOn ops → 0 < length ops
+    → AllByRecursion (Carries (op_does needed) (instr_does needed) IsState) (block_pieces needed ops)
+
+-- a block that can be placed, whose last instruction ends it
+pub record IsPlacedBlock (instrs : List Instr) (target : Option ℕ) : Type 0 where
+  pub block : IsBlock (record { instrs = instrs; target = target })
+  pub placeable : AllByRecursion IsPlaceable instrs
+  pub terminator : is_terminator block.last.op ≡ true
+
+-- and so can its instructions be placed
+abbrev pub BlocksArePlaceable : Type 0
+BlocksArePlaceable =
+    (needed : List ℕ) (begins : List Bool) (ops : List (Operation ℕ)) → AllByRecursion CanBeLowered ops → FrontGoesOn ops → 0 < length ops
+    → IsPlacedBlock (block_instrs needed ops) (option_map (block_of begins) (aim_of_last needed ops))
+
+-- Each block's instructions do what its operations do, at most four begun for each, and jumps lead to blocks.
 abbrev pub LoweredIsCut : Type 0
 LoweredIsCut =
-    (host : Host) (given : Given) (lifted : Lifted) → IsLifted given lifted
-    → ((number : ℕ) (s : State) → IsState s → GoodTurn IsState (host number s))
-    → Cut (rules host) (op_does host lifted.needed) (instr_does host lifted.needed) IsState (pieces lifted) (λ t. t) (instr_places lifted)
+    (given : Given) (lifted : Lifted) → IsLifted given lifted
+    → Cut (op_does lifted.needed) (instr_does lifted.needed) IsState (pieces lifted) (λ t. t) (instr_places lifted)
 
 -- the blocks together are the operations in code order
 abbrev pub BlocksAreAll : Type 0
@@ -57,19 +113,27 @@ BlocksAreAll = (given : Given) (lifted : Lifted) → IsLifted given lifted → a
 
 -- an entry begins a block
 abbrev pub EntriesBegin : Type 0
-EntriesBegin = (given : Given) (lifted : Lifted) → IsLifted given lifted → (entry t : ℕ) → slice_get lifted.entries entry ≡ Some t → op_place (pieces lifted) (block_of lifted.begins t) ≡ t
+EntriesBegin = (given : Given) (lifted : Lifted) → IsLifted given lifted → (entry t : ℕ) → slice_get lifted.entries entry ≡ Some t → op_place (pieces lifted) (first_piece lifted (block_of lifted.begins t)) ≡ t
 
 -- each operation stands in a block of the list
 abbrev pub BlocksStand : Type 0
 BlocksStand = (given : Given) (lifted : Lifted) → IsLifted given lifted → (t : ℕ) → t < length lifted.places → (b : Block) × (slice_get (lowered_blocks lifted).blocks (block_of lifted.begins t) ≡ Some b)
 
--- the pieces have the instructions of the list of blocks, in the same places
+-- an instruction, with a block for the operation that is its target
+pub record InBlock : Type 0 where
+  pub instr : Instr
+  pub target : Option ℕ
+
+-- the pieces have the instructions of the list of blocks, with the same targets in the same places
 abbrev pub SameInstrs : Type 0
-SameInstrs = (lifted : Lifted) → map (λ i. i.instr) (all_instrs (pieces lifted)) ≡ instrs_of (lowered_blocks lifted)
+SameInstrs =
+    (lengths : List ℕ) (lifted : Lifted)
+    → map {B = InBlock} (λ i. record { instr = i.instr; target = option_map (block_of lifted.begins) i.target }) (all_instrs (pieces lifted))
+    ≡ map {B = InBlock} (λ m. record { instr = m.instr; target = m.target }) (members_of lengths (lowered_blocks lifted))
 
 abbrev pub SamePlaces : Type 0
-SamePlaces = (lifted : Lifted) (block : ℕ) → instr_place (pieces lifted) block ≡ first_of (lowered_blocks lifted) block
+SamePlaces = (lifted : Lifted) (block : ℕ) → instr_place (pieces lifted) (first_piece lifted block) ≡ first_of (lowered_blocks lifted) block
 
--- the list of blocks can be placed
-abbrev pub LoweredIsPlain : Type 0
-LoweredIsPlain = (given : Given) (lifted : Lifted) → IsLifted given lifted → IsPlain (lowered_blocks lifted)
+-- the list of blocks can be placed, and each block's last instruction ends it
+abbrev pub LoweredIsPlaceable : Type 0
+LoweredIsPlaceable = (given : Given) (lifted : Lifted) → IsLifted given lifted → IsAssemblable (lowered_blocks lifted) × AreEnded (lowered_blocks lifted)

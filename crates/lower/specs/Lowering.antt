@@ -1,34 +1,99 @@
 -- The instructions of operations and of blocks.
-use Rattle.std.specs.Prelude.{ℕ, List, [], ◌∷◌, ◌++◌, Bool, true, false, Option, Some, None, map}
+use Rattle.std.specs.Prelude.{ℕ, ◌%◌, ◌^◌, nat_eq, List, [], ◌∷◌, ◌++◌, Bool, true, false, Option, Some, None, map}
+use Rattle.std.specs.Option.{option_map}
 use Rattle.numbers.specs.Words.{word_of}
+use Rattle.arithmetic.specs.Operations.{holds}
+use Rattle.rv_decode.specs.declared.ops.Cond.{Cond}
+use Rattle.rv_decode.specs.declared.ops.Cond.TheVariants.{Eq, Ne, Lt, Ge, Ltu, Geu}
+use Rattle.rv_decode.specs.declared.ops.Reg.{Reg}
 use Rattle.rv_decode.specs.declared.ops.Reg.TheVariants.{Zero, R}
-use Rattle.rv_decode.specs.declared.ops.RvOp.TheVariants as rv
 use Rattle.runs.specs.Blocks.{blocks, block_of}
+use Rattle.runs.specs.Joined.{joined}
+use Rattle.runs.specs.Numbers.{named}
 use Rattle.runs.specs.Pieces.{lowered}
+use Rattle.runs.specs.Groups.{parts}
 use Rattle.lift_blocks.specs.Operations.{Operation, Plain, Branch, Jal, Jalr, Pair, HostCall, Sbrk}
-use Rattle.lift_blocks.specs.Listed.{Lifted}
+use Rattle.lift_blocks.specs.Arithmetic.{of_cond}
+use Rattle.lift_blocks.specs.Listed.{Lifted, ends_block}
 use Rattle.pvm_ops.specs.declared.instr.Instr.{Instr}
 use Rattle.pvm_ops.specs.BlockList.{Block, BlockList}
-use Rattle.lower.specs.Instructions.{fallthrough, jump_ind}
+use Rattle.pvm_ops.specs.Fetch.{trap}
+use Rattle.lower.specs.Instructions.{rro, rxo, jump, load_imm_jump, load_imm_jump_ind, fallthrough, jump_ind, load_imm}
 use Rattle.lower.specs.Plain.{lower_plain}
 
--- The instructions of an operation, with 0 for an offset. So far the jumps have none but ret, which is the jalr of a
--- register without a link.
-abbrev pub lower_op : Operation ℕ → List Instr
-lower_op (Plain op) = lower_plain op
-lower_op (Jalr Zero (R a) imm link) = jump_ind a (word_of imm) ∷ []
-lower_op op = []
+-- the opcode of a branch on two registers
+abbrev pub branch_opcode : Cond → ℕ
+branch_opcode Eq = 170
+branch_opcode Ne = 171
+branch_opcode Lt = 173
+branch_opcode Ge = 175
+branch_opcode Ltu = 172
+branch_opcode Geu = 174
 
--- whether the machine never goes on behind it by itself: a branch, a jump or a trap
-abbrev pub ends : Operation ℕ → Bool
-ends (Plain rv.Trap) = true
-ends (Plain op) = false
-ends (Branch cond rs1 rs2 target) = true
-ends (Jal rd link target) = true
-ends (Jalr rd rs1 imm link) = true
-ends (Pair temp rd link target) = true
-ends (HostCall number) = false
-ends Sbrk = false
+-- that of one on a register and 0, and on 0 and a register, which compares the other way round
+abbrev pub branch_zero_opcode : Cond → ℕ
+branch_zero_opcode Eq = 81
+branch_zero_opcode Ne = 82
+branch_zero_opcode Lt = 87
+branch_zero_opcode Ge = 89
+branch_zero_opcode Ltu = 83
+branch_zero_opcode Geu = 85
+
+abbrev pub zero_branch_opcode : Cond → ℕ
+zero_branch_opcode Eq = 81
+zero_branch_opcode Ne = 82
+zero_branch_opcode Lt = 90
+zero_branch_opcode Ge = 88
+zero_branch_opcode Ltu = 86
+zero_branch_opcode Geu = 84
+
+-- a branch of x0 and x0 that holds is a jump, and one that doesn't goes on
+abbrev pub jump_if : Bool → Instr
+jump_if true = jump
+jump_if false = fallthrough
+
+abbrev pub branch : Cond → Reg → Reg → Instr
+branch cond Zero Zero = jump_if (holds (of_cond cond) 0 0)
+branch cond (R a) Zero = rxo (branch_zero_opcode cond) a 0
+branch cond Zero (R b) = rxo (zero_branch_opcode cond) b 0
+branch cond (R a) (R b) = rro (branch_opcode cond) a b
+
+-- a jump with the number of the place behind it as its link
+abbrev pub jump_with : Reg → ℕ → Instr
+jump_with Zero link = jump
+jump_with (R d) link = load_imm_jump d link
+
+-- a jump to what a number names, which is known where the number is a constant
+abbrev pub jump_to : Option ℕ → Reg → ℕ → Instr
+jump_to None rd link = trap
+jump_to (Some target) rd link = jump_with rd link
+
+-- a jump by a register and an immediate
+abbrev pub jump_by_register : Reg → ℕ → ℕ → ℕ → Instr
+jump_by_register Zero a x link = jump_ind a x
+jump_by_register (R d) a x link = load_imm_jump_ind d a link x
+
+-- a pair's auipc leaves 0 in its register, unless that is the link's
+abbrev pub clears_if : Bool → ℕ → ℕ → ℕ → List Instr
+clears_if true t d link = load_imm_jump d link ∷ []
+clears_if false t d link = load_imm t 0 ∷ load_imm_jump d link ∷ []
+
+abbrev pub pair : Reg → Reg → ℕ → List Instr
+pair Zero rd link = jump_with rd link ∷ []
+pair (R t) Zero link = load_imm_jump t 0 ∷ []
+pair (R t) (R d) link = clears_if (nat_eq t d) t d link
+
+-- The instructions of an operation, with 0 for an offset, by the needed places, which the address map's numbers name.
+-- Those of a host call and of sbrk come with their stubs.
+abbrev pub lower_op : List ℕ → Operation ℕ → List Instr
+lower_op needed (Plain op) = lower_plain op
+lower_op needed (Branch cond rs1 rs2 target) = branch cond rs1 rs2 ∷ []
+lower_op needed (Jal rd link target) = jump_with rd link ∷ []
+lower_op needed (Jalr rd Zero imm link) = jump_to (named needed (word_of imm % 2 ^ 32)) rd link ∷ []
+lower_op needed (Jalr rd (R a) imm link) = jump_by_register rd a (word_of imm) link ∷ []
+lower_op needed (Pair temp rd link target) = pair temp rd link
+lower_op needed (HostCall number) = []
+lower_op needed Sbrk = []
 
 -- what stands behind an operation that ends its block, or doesn't
 abbrev pub tail_if : Bool → List Instr
@@ -38,41 +103,63 @@ tail_if false = fallthrough ∷ []
 -- where its last operation doesn't end it, a block falls through to the next
 abbrev pub tail_of : List (Operation ℕ) → List Instr
 tail_of [] = fallthrough ∷ []
-tail_of (op ∷ []) = tail_if (ends op)
+tail_of (op ∷ []) = tail_if (ends_block op)
 tail_of (op ∷ next ∷ ops) = tail_of (next ∷ ops)
 
--- the target of an operation
-abbrev pub aim_of : Operation ℕ → Option ℕ
-aim_of (Plain op) = None
-aim_of (Branch cond rs1 rs2 target) = Some target
-aim_of (Jal rd link target) = Some target
-aim_of (Jalr rd rs1 imm link) = None
-aim_of (Pair temp rd link target) = Some target
-aim_of (HostCall number) = None
-aim_of Sbrk = None
+-- a target where a test holds
+abbrev pub target_if : Bool → ℕ → Option ℕ
+target_if true target = Some target
+target_if false target = None
 
--- a target as the block in which it stands
-abbrev pub as_block : List Bool → Option ℕ → Option ℕ
-as_block begins None = None
-as_block begins (Some target) = Some (block_of begins target)
+abbrev pub branch_aim : Cond → Reg → Reg → ℕ → Option ℕ
+branch_aim cond Zero Zero target = target_if (holds (of_cond cond) 0 0) target
+branch_aim cond (R a) Zero target = Some target
+branch_aim cond Zero (R b) target = Some target
+branch_aim cond (R a) (R b) target = Some target
 
--- the target of a block is that of its last operation, as a block
-abbrev pub aim_of_last : List Bool → List (Operation ℕ) → Option ℕ
-aim_of_last begins [] = None
-aim_of_last begins (op ∷ []) = as_block begins (aim_of op)
-aim_of_last begins (op ∷ next ∷ ops) = aim_of_last begins (next ∷ ops)
+-- the target to which the offset of an operation's last instruction leads
+abbrev pub aim_of : List ℕ → Operation ℕ → Option ℕ
+aim_of needed (Plain op) = None
+aim_of needed (Branch cond rs1 rs2 target) = branch_aim cond rs1 rs2 target
+aim_of needed (Jal rd link target) = Some target
+aim_of needed (Jalr rd Zero imm link) = named needed (word_of imm % 2 ^ 32)
+aim_of needed (Jalr rd (R a) imm link) = None
+aim_of needed (Pair temp rd link target) = Some target
+aim_of needed (HostCall number) = None
+aim_of needed Sbrk = None
+
+-- the target of a block is that of its last operation
+abbrev pub aim_of_last : List ℕ → List (Operation ℕ) → Option ℕ
+aim_of_last needed [] = None
+aim_of_last needed (op ∷ []) = aim_of needed op
+aim_of_last needed (op ∷ next ∷ ops) = aim_of_last needed (next ∷ ops)
+
+-- whether an operation calls the host
+abbrev pub is_call : Operation ℕ → Bool
+is_call (Plain op) = false
+is_call (Branch cond rs1 rs2 target) = false
+is_call (Jal rd link target) = false
+is_call (Jalr rd rs1 imm link) = false
+is_call (Pair temp rd link target) = false
+is_call (HostCall number) = true
+is_call Sbrk = false
+
+-- the instructions of operations of which none but the last calls the host: so far each is lowered alone
+abbrev pub part_instrs : List ℕ → List (Operation ℕ) → List Instr
+part_instrs needed ops = lowered (lower_op needed) ops
 
 -- the instructions of a block
-abbrev pub block_instrs : List (Operation ℕ) → List Instr
-block_instrs ops = lowered lower_op ops ++ tail_of ops
+abbrev pub block_instrs : List ℕ → List (Operation ℕ) → List Instr
+block_instrs needed ops = joined (map (part_instrs needed) (parts is_call ops)) ++ tail_of ops
 
-abbrev pub lower_block : List Bool → List (Operation ℕ) → Block
-lower_block begins ops = record { instrs = block_instrs ops; target = aim_of_last begins ops }
+-- its target as the block in which that stands
+abbrev pub lower_block : List ℕ → List Bool → List (Operation ℕ) → Block
+lower_block needed begins ops = record { instrs = block_instrs needed ops; target = option_map (block_of begins) (aim_of_last needed ops) }
 
 -- the blocks of the operations in code order, with the blocks of the entries and of the address map
 abbrev pub lowered_blocks : Lifted → BlockList
 lowered_blocks lifted = record {
-  blocks = map (lower_block lifted.begins) (blocks lifted.begins lifted.ops);
+  blocks = map (lower_block lifted.needed lifted.begins) (blocks lifted.begins lifted.ops);
   entries = map (block_of lifted.begins) lifted.entries;
   needed = map (block_of lifted.begins) lifted.needed;
 }

@@ -4,7 +4,7 @@
 //! that a block's instructions do what its operations do.
 #![tactic(auto)]
 
-ghost use Rattle.lower.specs.Laws.{WordsAreLowerable, OperationsAreLowered, LoweredIsCut, BlocksAreAll, EntriesBegin, BlocksStand, SameInstrs, SamePlaces, LoweredIsPlain};
+ghost use Rattle.lower.specs.Laws.{WordsAreLowerable, OperationsAreLowered, AllAreLowered, EndingsArePlaceable, BlocksAreCarried, BlocksArePlaceable, LoweredIsCut, BlocksAreAll, EntriesBegin, BlocksStand, SameInstrs, SamePlaces, LoweredIsPlaceable};
 
 mod forms;
 mod operations;
@@ -14,10 +14,14 @@ pub use forms::Three;
 pub use operations::lower_operation;
 
 /// A word's operation can be lowered by itself, unless it is a jump or a branch, and the instructions of such an
-/// operation do what it does.
+/// operation do what it does. So do those of jumps and branches, which can be placed with their offsets.
 pub fn operations_are_carried_out()
     ensures words { WordsAreLowerable }
     ensures effects { OperationsAreLowered }
+    ensures jumps { AllAreLowered }
+    ensures endings { EndingsArePlaceable }
+    ensures carried { BlocksAreCarried }
+    ensures placeable { BlocksArePlaceable }
 {}
 
 /// What the link rests on: each block is carried out, together they are all operations, entries begin blocks, and the
@@ -29,7 +33,7 @@ pub fn blocks_are_carried_out()
     ensures stand { BlocksStand }
     ensures instrs { SameInstrs }
     ensures places { SamePlaces }
-    ensures plain { LoweredIsPlain }
+    ensures placeable { LoweredIsPlaceable }
 {}
 
 #[cfg(test)]

@@ -1,6 +1,6 @@
 use Rattle.lower.proofs.blocks_are_carried_out.Goals as goal
 use Rattle.lower.proofs.Same.{same_instrs, same_places}
-use Rattle.lower.proofs.Plain.{lowered_is_plain}
+use Rattle.lower.proofs.Plain.{lowered_is_placeable}
 use Rattle.lower.proofs.Begin.{blocks_are_all, entries_begin, blocks_stand}
 use Rattle.lower.proofs.Aims.{lowered_is_cut}
 
@@ -22,5 +22,5 @@ returns-clause-instrs c = same_instrs
 pub returns-clause-places : goal.returns-clause-places
 returns-clause-places c = same_places
 
-pub returns-clause-plain : goal.returns-clause-plain
-returns-clause-plain c = lowered_is_plain
+pub returns-clause-placeable : goal.returns-clause-placeable
+returns-clause-placeable c = lowered_is_placeable

@@ -1,9 +1,24 @@
 use Rattle.lower.proofs.operations_are_carried_out.Goals as goal
-use Rattle.lower.proofs.Built.{words_are_lowerable}
+use Rattle.lower.proofs.Immediates.{words_are_lowerable}
 use Rattle.lower.proofs.Alone.{operations_are_lowered}
+use Rattle.lower.proofs.Jumps.{all_are_lowered}
+use Rattle.lower.proofs.Blocks.{blocks_are_carried, blocks_are_placeable}
+use Rattle.lower.proofs.Endings.{endings_are_placeable}
 
 pub returns-clause-words : goal.returns-clause-words
 returns-clause-words c = words_are_lowerable
 
 pub returns-clause-effects : goal.returns-clause-effects
 returns-clause-effects c = operations_are_lowered
+
+pub returns-clause-jumps : goal.returns-clause-jumps
+returns-clause-jumps c = all_are_lowered
+
+pub returns-clause-endings : goal.returns-clause-endings
+returns-clause-endings c = endings_are_placeable
+
+pub returns-clause-carried : goal.returns-clause-carried
+returns-clause-carried c = blocks_are_carried
+
+pub returns-clause-placeable : goal.returns-clause-placeable
+returns-clause-placeable c = blocks_are_placeable
