@@ -6,19 +6,25 @@ use Rattle.numbers.specs.Words.{sum_64}
 use Rattle.runs.specs.Machine.{Outcome, Next, Jump, Call, Ends, retarget}
 use Rattle.runs.specs.Laid.{GoesOn, LaidAt, Laid}
 use Rattle.machine_state.specs.State.{State}
-use Rattle.machine_state.specs.Ends.{End, Host}
+use Rattle.machine_state.specs.Ends.{End}
 use Rattle.pvm_ops.specs.Listing.{Listing}
 use Rattle.pvm_ops.specs.Opcodes.{form_of}
-use Rattle.pvm_ops.specs.Offsets.{offset_of, has_offset}
+use Rattle.pvm_ops.specs.declared.instr.Instr.{Instr}
+use Rattle.pvm_ops.specs.Offsets.{offset_of, with_offset, has_offset}
 use Rattle.pvm_ops.specs.BlockList.{BlockList}
 use Rattle.blob_check.specs.Starts.{is_start}
 use Rattle.pvm_machine.specs.Effect.{effect}
 use Rattle.pvm_machine.specs.Step.{land, does_at, instr_at}
 use Rattle.pvm_machine.proofs.Standings.{instr_stands, none_stands}
-use Rattle.pvm_machine.specs.Laws.{EffectIsRenamed, EffectIsPlain, EffectIsNamed, IsNamed}
-use Rattle.jump_table.specs.Assembly.{instrs_of, instr_position}
-use Rattle.jump_table.specs.Laws.{IsPlain, IsPlaced}
-use Rattle.lower.specs.Cutting.{Aimed, instr_does}
+use Rattle.pvm_machine.specs.Laws.{EffectIsRenamed, EffectIsPlain, EffectIsNamed, IsNamed, EffectIsOfTarget, EffectIsAimed, IsTo}
+use Rattle.jump_table.specs.Assembly.{Member, members_of, instr_position, start_of, offset, placed_instr}
+use Rattle.jump_table.specs.Laws.{is_some, IsAssemblable, AreEnded, IsPlaced}
+use Rattle.jump_table.proofs.Offsets.{with_rest, with_none}
+use Rattle.jump_table.proofs.Blocks.{member_has}
+use Rattle.lower.specs.Cutting.{Aimed, or_zero, instr_does}
+use Rattle.lower.specs.Laws.{InBlock}
+use Rattle.lower.proofs.Lists.{from_map}
+use Rattle.link_core.proofs.StraightBuilt.{mapped_none}
 
 -- a jump to where blocks start lands
 pub lands : (starts : ℕ → Bool) (name : ℕ → ℕ) (table : List ℕ) (o : Outcome ℕ State End) → IsNamed table o → ((i t : ℕ) → slice_get table i ≡ Some t → starts (name t) ≡ true) → land starts (retarget name o) ≡ retarget name o
@@ -34,39 +40,103 @@ goes_same x (Jump t s) = tt
 goes_same x (Call number s) = refl
 goes_same x (Ends end) = tt
 
-module _ (host : Host) (list : BlockList) (code : Listing) (plain : IsPlain list) (placed : IsPlaced list code) (renamed : EffectIsRenamed) (no_target : EffectIsPlain) (named : EffectIsNamed)
-    (instrs : List Aimed) (same_instrs : map (λ a. a.instr) instrs ≡ instrs_of list)
-    (places : ℕ → ℕ) (needed table : List ℕ) (same_table : table ≡ map (λ t. instr_position list (places t)) needed)
-    (starts : (i t : ℕ) → slice_get needed i ≡ Some t → is_start code (instr_position list (places t)) ≡ true) where
-  listed : (q : ℕ) (o : Option Aimed) → slice_get instrs q ≡ o → slice_get (instrs_of list) q ≡ option_map (λ a. a.instr) o
-  listed q o e = ap (λ l. slice_get l q) (sym same_instrs) ∙ slice_get-map (λ a. a.instr) instrs q ∙ ap (option_map (λ a. a.instr)) e
+-- so does a jump to one target
+lands_at : (starts : ℕ → Bool) (name : ℕ → ℕ) (target : ℕ) (o : Outcome ℕ State End) → IsTo target o → starts (name target) ≡ true → land starts (retarget name o) ≡ retarget name o
+lands_at starts name target (Next s) h k = refl
+lands_at starts name target (Jump t s) h k = rw (h, k) refl
+lands_at starts name target (Call number s) h k = refl
+lands_at starts name target (Ends end) h k = refl
 
+module _ (lengths : List ℕ) (list : BlockList) (code : Listing) (assemblable : IsAssemblable list) (ended : AreEnded list) (placed : IsPlaced lengths list code)
+    (renamed : EffectIsRenamed) (no_target : EffectIsPlain) (named : EffectIsNamed) (of_target : EffectIsOfTarget) (to_target : EffectIsAimed)
+    (instrs : List Aimed) (block : ℕ → ℕ)
+    (same_instrs : map {B = InBlock} (λ a. record { instr = a.instr; target = option_map block a.target }) instrs ≡ map {B = InBlock} (λ m. record { instr = m.instr; target = m.target }) (members_of lengths list))
+    (places : ℕ → ℕ) (same_places : (t : ℕ) → start_of lengths list (block t) ≡ instr_position lengths list (places t))
+    (needed table : List ℕ) (same_table : table ≡ map (λ t. instr_position lengths list (places t)) needed)
+    (starts : (i t : ℕ) → slice_get needed i ≡ Some t → is_start code (instr_position lengths list (places t)) ≡ true) where
   name : ℕ → ℕ
-  name t = instr_position list (places t)
+  name t = instr_position lengths list (places t)
 
-  does_same : (at : ℕ) (a : Aimed) (s : State) → has_offset (form_of a.instr.op) ≡ false → does_at host table code (record { instr = a.instr; at = at }) s ≡ retarget (λ t. instr_position list (places t)) (instr_does host needed a s)
-  does_same at a s none =
-      let target = sum_64 at (offset_of (form_of a.instr.op) a.instr) in
-      let to = instr_position list (places a.target) in
-      ap (λ l. land (is_start code) (effect host l target a.instr s)) same_table
-      ∙ ap (land (is_start code)) (no_target host (map (λ t. instr_position list (places t)) needed) target to a.instr s none)
-      ∙ ap (land (is_start code)) (renamed host (λ t. instr_position list (places t)) needed a.target a.instr s)
-      ∙ lands (is_start code) (λ t. instr_position list (places t)) needed (effect host needed a.target a.instr s) (named host needed a.target a.instr s none) starts
+  -- what an instruction is among those of the list of blocks
+  record Listed (q : ℕ) (a : Aimed) : Type 0 where
+    m : Member
+    there : slice_get (members_of lengths list) q ≡ Some m
+    instr_is : m.instr ≡ a.instr
+    target_is : m.target ≡ option_map block a.target
+
+  listed : (q : ℕ) (a : Aimed) → slice_get instrs q ≡ Some a → Listed q a
+  listed q a e =
+      let mapped = slice_get-map {B = InBlock} (λ a. record { instr = a.instr; target = option_map block a.target }) instrs q ∙ ap (option_map (λ a. record { instr = a.instr; target = option_map block a.target })) e in
+      let from = from_map {B = InBlock} (λ m. record { instr = m.instr; target = m.target }) (members_of lengths list) q _ (ap (λ l. slice_get l q) (sym same_instrs) ∙ mapped) in
+      record { m = from.x; there = from.there; instr_is = ap (λ b. b.instr) from.is; target_is = ap (λ b. b.target) from.is }
+
+  unlisted : (q : ℕ) → slice_get instrs q ≡ None → slice_get (members_of lengths list) q ≡ None
+  unlisted q e =
+      mapped_none {Y = InBlock} (λ m. record { instr = m.instr; target = m.target }) (slice_get (members_of lengths list) q)
+      (sym (slice_get-map {B = InBlock} (λ m. record { instr = m.instr; target = m.target }) (members_of lengths list) q)
+      ∙ ap (λ l. slice_get l q) (sym same_instrs)
+      ∙ slice_get-map {B = InBlock} (λ a. record { instr = a.instr; target = option_map block a.target }) instrs q
+      ∙ ap (option_map (λ a. record { instr = a.instr; target = option_map block a.target })) e)
+
+  -- an instruction without an offset does the same where it stands
+  plain_same : (at target : ℕ) (i : Instr) (s : State) → has_offset (form_of i.op) ≡ false → does_at table code (record { instr = i; at = at }) s ≡ retarget (λ t. instr_position lengths list (places t)) (effect needed target i s)
+  plain_same at target i s none =
+      let to = sum_64 at (offset_of (form_of i.op) i) in
+      ap (λ l. land (is_start code) (effect l to i s)) same_table
+      ∙ ap (land (is_start code)) (no_target (map (λ t. instr_position lengths list (places t)) needed) to (instr_position lengths list (places target)) i s none)
+      ∙ ap (land (is_start code)) (renamed (λ t. instr_position lengths list (places t)) needed target i s)
+      ∙ lands (is_start code) (λ t. instr_position lengths list (places t)) needed (effect needed target i s) (named needed target i s none) starts
+
+  -- and so does one with an offset, that leads to the start of its target
+  aimed_same : (at offset target : ℕ) (i : Instr) (s : State) → has_offset (form_of i.op) ≡ true
+      → sum_64 at (offset_of (form_of (with_offset (form_of i.op) offset i).op) (with_offset (form_of i.op) offset i)) ≡ instr_position lengths list (places target)
+      → is_start code (instr_position lengths list (places target)) ≡ true
+      → does_at table code (record { instr = with_offset (form_of i.op) offset i; at = at }) s ≡ retarget (λ t. instr_position lengths list (places t)) (effect needed target i s)
+  aimed_same at offset target i s has leads start =
+      ap (λ l. land (is_start code) (effect l (sum_64 at (offset_of (form_of (with_offset (form_of i.op) offset i).op) (with_offset (form_of i.op) offset i))) (with_offset (form_of i.op) offset i) s)) same_table
+      ∙ ap (λ to. land (is_start code) (effect (map (λ t. instr_position lengths list (places t)) needed) to (with_offset (form_of i.op) offset i) s)) leads
+      ∙ ap (land (is_start code)) (of_target (map (λ t. instr_position lengths list (places t)) needed) (instr_position lengths list (places target)) offset i s)
+      ∙ ap (land (is_start code)) (renamed (λ t. instr_position lengths list (places t)) needed target i s)
+      ∙ lands_at (is_start code) (λ t. instr_position lengths list (places t)) target (effect needed target i s) (to_target needed target i s has) start
+
+  -- each instruction, with its offset, does the same where it stands
+  does_same : (q : ℕ) (m : Member) (o : Option ℕ) (s : State) → slice_get (members_of lengths list) q ≡ Some m → m.target ≡ option_map block o
+      → does_at table code (record { instr = placed_instr lengths list q m.target m.instr; at = instr_position lengths list q }) s ≡ retarget (λ t. instr_position lengths list (places t)) (effect needed (or_zero o) m.instr s)
+  does_same q m None s there e =
+      let none : has_offset (form_of m.instr.op) ≡ false = by_offset (has_offset (form_of m.instr.op)) refl in
+      rw e (plain_same (instr_position lengths list q) 0 m.instr s none)
+    where
+      by_offset : (b : Bool) → has_offset (form_of m.instr.op) ≡ b → b ≡ false
+      by_offset true has = (let aimed = member_has lengths list assemblable.blocks q m there has in let none : is_some m.target ≡ false = ap is_some e in absurd cc)
+      by_offset false has = refl
+  does_same q m (Some t) s there e = rw e (by_offset (has_offset (form_of m.instr.op)) refl)
+    where
+      by_offset : (b : Bool) → has_offset (form_of m.instr.op) ≡ b
+          → does_at table code (record { instr = placed_instr lengths list q (Some (block t)) m.instr; at = instr_position lengths list q }) s ≡ retarget (λ t. instr_position lengths list (places t)) (effect needed t m.instr s)
+      by_offset true has =
+          let op : (placed_instr lengths list q (Some (block t)) m.instr).op ≡ m.instr.op = (with_rest (form_of m.instr.op) (offset (instr_position lengths list q) (start_of lengths list (block t))) m.instr).op in
+          let leads = rw e at (placed.leads q (block t) m e has) in
+          let start = placed.lands ended q (block t) m there e in
+          aimed_same (instr_position lengths list q) (offset (instr_position lengths list q) (start_of lengths list (block t))) t m.instr s has
+          (rw op (leads ∙ same_places t)) (rw (← same_places t) start)
+      by_offset false none =
+          rw (with_none (form_of m.instr.op) (offset (instr_position lengths list q) (start_of lengths list (block t))) m.instr none)
+          (plain_same (instr_position lengths list q) t m.instr s none)
 
   -- the instructions of a list stand in its code, do the same there, and nothing stands behind them
-  pub code_lock : Laid (instr_does host needed) (does_at host table code) instrs places (instr_position list) (instr_at code)
+  pub code_lock : Laid (instr_does needed) (does_at table code) instrs places (instr_position lengths list) (instr_at code)
   code_lock = record { stands = stands_at; past = past_at }
     where
-      stands_at : (q : ℕ) (a : Aimed) → slice_get instrs q ≡ Some a → LaidAt (instr_does host needed) (does_at host table code) places (instr_position list) (instr_at code) q a
+      stands_at : (q : ℕ) (a : Aimed) → slice_get instrs q ≡ Some a → LaidAt (instr_does needed) (does_at table code) places (instr_position lengths list) (instr_at code) q a
       stands_at q a e =
-          let is = listed q (Some a) e in
+          let is = listed q a e in
           record {
-            instr = record { instr = a.instr; at = instr_position list q };
-            next = instr_position list (q + 1);
-            is = (let f = placed.instrs q a.instr is in instr_stands code (instr_position list q) a.instr (instr_position list (q + 1)) f.marked f.known f.fetched);
-            same = λ s. does_same (instr_position list q) a s (plain.instrs q a.instr is).no_offset;
-            goes_on = λ s. goes_same (instr_position list (q + 1)) (instr_does host needed a s);
+            instr = record { instr = placed_instr lengths list q is.m.target is.m.instr; at = instr_position lengths list q };
+            next = instr_position lengths list (q + 1);
+            is = (let f = placed.instrs q is.m is.there in instr_stands code (instr_position lengths list q) (placed_instr lengths list q is.m.target is.m.instr) (instr_position lengths list (q + 1)) f.marked f.known f.fetched);
+            same = λ s. does_same q is.m a.target s is.there is.target_is ∙ ap (λ i. retarget (λ t. instr_position lengths list (places t)) (effect needed (or_zero a.target) i s)) is.instr_is;
+            goes_on = λ s. goes_same (instr_position lengths list (q + 1)) (instr_does needed a s);
           }
 
-      past_at : (q : ℕ) → slice_get instrs q ≡ None → instr_at code (instr_position list q) ≡ None
-      past_at q e = none_stands code (instr_position list q) (placed.past q (listed q None e))
+      past_at : (q : ℕ) → slice_get instrs q ≡ None → instr_at code (instr_position lengths list q) ≡ None
+      past_at q e = none_stands code (instr_position lengths list q) (placed.past q (unlisted q e))

@@ -5,14 +5,13 @@ use Rattle.std.proofs.lemmas.List.{length-replicate}
 use Rattle.elf_objects.specs.declared.parts.SectionKind.{SectionKind}
 use Rattle.elf_objects.specs.declared.parts.SectionKind.TheVariants as kinds
 use Rattle.elf_objects.specs.Objects.{Section, Object}
-use Rattle.symbols.specs.Parts.{object_at, no_object}
+use Rattle.symbols.specs.Parts.{object_at, no_object, sections_of}
 use Rattle.symbols.specs.Wanted.{Given}
 use Rattle.layout.specs.Sections.{is_read_only, is_writable, extent}
 use Rattle.layout.specs.Addresses.{aligned, end_if, end_of_sections, end_of_objects, end_before, address_of, address_in, read_only_len, writable_len, writable_start}
 use Rattle.layout.specs.Laws.{AlignedIsLeast}
 use Rattle.machine_state.specs.Start.{read_only_start}
 use Rattle.relocs.specs.Images.{gap, with_section, with_sections, with_objects, read_only_image, writable_image}
-use Rattle.relocs.specs.Places.{sections_of}
 use Rattle.link_core.specs.DataParts.{holds, start_of}
 use Rattle.link_core.specs.declared.data_part.DataPart.{DataPart}
 use Rattle.link_core.specs.declared.data_part.DataPart.TheVariants.{ReadOnly, Writable, Zero}

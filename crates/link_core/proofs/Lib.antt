@@ -1,5 +1,6 @@
-pub mod CodeLock
-pub mod Agreement
+pub mod CodeFaults
+pub mod LeastPlaces
+pub mod Unsupported
 pub mod StraightPlaces
 pub mod StraightStanding
 pub mod StraightLifted
@@ -23,4 +24,9 @@ pub mod PlacedEntries
 pub mod LinkSteps
 pub mod MapLines
 pub mod LinkedCode
+pub mod CodeSize
 pub mod LinkFaultsTold
+pub mod OneFault
+pub mod Hosts
+pub mod CodeLock
+pub mod Agreement

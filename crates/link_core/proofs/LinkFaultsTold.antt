@@ -1,86 +1,104 @@
--- The first fault of a link, from those of its parts in their order.
-use Rattle.std.proofs.Common.{◌≡◌, ℕ, ◌^◌, true, false, List, [], Option, Some, None, refl, ap, subst}
-use Rattle.std.specs.Prelude.{nat_lt, Result, Ok, Err, MatchResult}
-use Rattle.std.specs.Result.{IsErrAnd}
+-- The first fault of a link, from those of its phases in their order.
+use Rattle.std.proofs.Common.{◌≡◌, ℕ, List, [], ◌++◌, Some, None, refl, ap, ◌∙◌, subst, inl, inr}
+use Rattle.std.specs.Prelude.{Result, MatchResult}
 use Rattle.std.specs.List.{filter_map}
 use Rattle.faults.specs.First.{◌or_else◌}
 use Rattle.faults.specs.Present.{first_in}
+use Rattle.faults.proofs.Heads.{first_in-append, none_in}
 use Rattle.elf_objects.specs.declared.fault.Fault.{Fault}
 use Rattle.elf_objects.specs.Objects.{Object}
 use Rattle.elf_objects.specs.Reading.{object_of}
 use Rattle.symbols.specs.Wanted.{Wanted, Given}
-use Rattle.symbols.specs.Faults.{symbol_faults, Refuses}
+use Rattle.symbols.specs.Faults.{symbol_faults, Refuses as SymbolsRefuse}
 use Rattle.symbols.specs.declared.fault.SymbolFault.{SymbolFault}
 use Rattle.symbols.specs.declared.fault.SymbolFault.TheVariants as symbol
 use Rattle.layout.specs.declared.fault.LayoutFault.{LayoutFault}
 use Rattle.layout.specs.declared.fault.LayoutFault.TheVariants as layout
-use Rattle.layout.specs.Faults.{whole, layout_fault, Refuses as LayoutRefuses}
-use Rattle.link_core.specs.Faults.{code_fault, placed_fault, given_fault, first_fault, given_of, object_faults, FailsWith}
+use Rattle.layout.specs.Faults.{whole, layout_faults, Refuses as LayoutRefuses}
+use Rattle.link_core.specs.CodeFaults.{code_faults}
+use Rattle.link_core.specs.Unsupported.{is_unsupported, IsSupported}
+use Rattle.link_core.specs.Faults.{object_faults, input_of, given_faults, IsTooLarge, HasNone, IsFirst, HasNoFault, HasFirstFault, Refuses}
 use Rattle.link_core.specs.Linked.{Linked, HoldsLinked}
 use Rattle.link_core.specs.LinkFaults.{of_symbols, of_layout}
 use Rattle.link_core.specs.declared.link_fault.LinkFault.{LinkFault}
 use Rattle.link_core.specs.declared.link_fault.LinkFault.TheVariants.{Bad, Memory}
-use Rattle.link_core.specs.Straight.{size, straight_instrs}
 use Rattle.link_core.specs.Unbuilt.{first_unbuilt}
 use Rattle.link_core.specs.WordFaults.{first_word_fault}
+use Rattle.link_core.proofs.CodeFaults.{first_code_fault}
+use Rattle.link_core.proofs.LeastPlaces.{LeastPlace}
+use Rattle.link_core.proofs.Unsupported.{unsupported_least}
 
-module _ (given : Given) where
-  -- a word without an operation is told first
-  pub told-words : (fault : Fault) → first_word_fault given ≡ Some fault → code_fault given ≡ Some fault
-  told-words fault words = rw words refl
+-- the first fault of an earlier phase is the first of all
+first_before : (earlier later : List Fault) (fault : Fault) → first_in earlier ≡ Some fault → first_in (earlier ++ later) ≡ Some fault
+first_before earlier later fault e = first_in-append earlier later ∙ ap (λ x. x or_else first_in later) e
 
-  -- then something that isn't built
-  pub told-unbuilt : (fault : Fault) → first_word_fault given ≡ None → first_unbuilt given ≡ Some fault → code_fault given ≡ Some fault
-  told-unbuilt fault words e = rw (words, e) refl
+pub refused_before : (earlier later : List Fault) (given : Given) (fault : LinkFault) → Refuses (λ f. first_in earlier ≡ Some f) fault → Refuses (IsFirst (earlier ++ later) given) fault
+refused_before earlier later given (Bad fault) first = inl (first_before earlier later fault first)
+refused_before earlier later given Memory first = tt
 
-  -- and then too large a program
-  pub told-bytes : first_word_fault given ≡ None → first_unbuilt given ≡ None → nat_lt (2 ^ 25) (size (straight_instrs given)) ≡ true → code_fault given ≡ Some (whole 32)
-  told-bytes words e large = rw (words, e, large) refl
-
-  pub none-told : first_word_fault given ≡ None → first_unbuilt given ≡ None → nat_lt (2 ^ 25) (size (straight_instrs given)) ≡ false → code_fault given ≡ None
-  none-told words e fits = rw (words, e, fits) refl
-
--- where the first part has no fault, what holds of the second holds of both
-pub made-before : {T : Type 0} (Q : T → Type 0) (first second both : Option Fault) (result : Result T LinkFault) → both ≡ (first or_else second) → first ≡ None → MatchResult result (λ x. (second ≡ None) × Q x) (FailsWith second) → MatchResult result (λ x. (both ≡ None) × Q x) (FailsWith both)
-made-before Q first second both result e none holds = rw (e, none) holds
-
--- the fault of the first part is that of both
-pub told-before : (first second both : Option Fault) (fault : LinkFault) → both ≡ (first or_else second) → FailsWith first fault → FailsWith both fault
-told-before first second both (Bad fault) e told = rw (e, told) refl
-told-before first second both Memory e told = tt
-
--- a result that is an error fails as its error does
-pub fails-at : {T : Type 0} (ok : T → Type 0) (first : Option Fault) (result : Result T LinkFault) (fault : LinkFault) → IsErrAnd result (λ e. e ≡ fault) → FailsWith first fault → MatchResult result ok (FailsWith first)
-fails-at ok first (Ok x) fault is told = absurd is
-fails-at ok first (Err e) fault is told = rw is told
+-- where the earlier phases have no fault, what holds of the later ones holds of all
+pub none_before : {T : Type 0} (Q : T → Type 0) (earlier later : List Fault) (given : Given) (result : Result T LinkFault) → earlier ≡ []
+    → MatchResult result (λ x. HasNone later given × Q x) (Refuses (IsFirst later given)) → MatchResult result (λ x. HasNone (earlier ++ later) given × Q x) (Refuses (IsFirst (earlier ++ later) given))
+none_before Q earlier later given result none holds = rw none holds
 
 -- the first fault of symbols, as that of the link
-pub symbols-told : (given : Given) (fault : SymbolFault) → Refuses fault (symbol_faults given) → FailsWith (first_in (symbol_faults given)) (of_symbols fault)
-symbols-told given (symbol.Bad fault) told = told
-symbols-told given symbol.Memory told = tt
+pub symbols_refused : (given : Given) (fault : SymbolFault) → SymbolsRefuse fault (symbol_faults given) → Refuses (λ f. first_in (symbol_faults given) ≡ Some f) (of_symbols fault)
+symbols_refused given (symbol.Bad fault) first = first
+symbols_refused given symbol.Memory first = tt
 
--- the fault of the layout, as that of the link
-pub layout-told : (given : Given) (fault : LayoutFault) → symbol_faults given ≡ [] → LayoutRefuses given fault → FailsWith (given_fault given) (of_layout fault)
-layout-told given (layout.Bad fault) none told = rw (none, told) refl
-layout-told given layout.Memory none told = tt
+-- and that of the layout
+pub layout_refused : (given : Given) (fault : LayoutFault) → LayoutRefuses given fault → Refuses (λ f. first_in (layout_faults given) ≡ Some f) (of_layout fault)
+layout_refused given (layout.Bad fault) first = first
+layout_refused given layout.Memory first = tt
+
+pub layout_first : (given : Given) (fault : LinkFault) → symbol_faults given ≡ [] → Refuses (λ f. first_in (layout_faults given) ≡ Some f) fault → Refuses (IsFirst (given_faults given) given) fault
+layout_first given fault none first = rw none (refused_before (layout_faults given) (code_faults given) given fault first)
+
+module _ (given : Given) where
+  -- of the code a word without an operation is refused first
+  pub words_first : (fault : Fault) → first_word_fault given ≡ Some fault → IsFirst (code_faults given) given fault
+  words_first fault words = inl (first_code_fault given ∙ words)
+
+  no_code_fault : first_word_fault given ≡ None → code_faults given ≡ []
+  no_code_fault words = none_in (code_faults given) (first_code_fault given ∙ words)
+
+  -- then something that is not supported yet
+  pub unsupported_first : (fault : Fault) → first_word_fault given ≡ None → first_unbuilt given ≡ Some fault → IsFirst (code_faults given) given fault
+  unsupported_first fault words e = inr (inl (record { none_listed = no_code_fault words; first = subst (LeastPlace (is_unsupported given)) e (unsupported_least given) }))
+
+  supported : first_unbuilt given ≡ None → IsSupported given
+  supported e = subst (LeastPlace (is_unsupported given)) e (unsupported_least given)
+
+  -- and then too large a program
+  pub size_first : first_word_fault given ≡ None → first_unbuilt given ≡ None → IsTooLarge given → IsFirst (code_faults given) given (whole 32)
+  size_first words e large = inr (inr (record { none_listed = no_code_fault words; supported = supported e; large = large; is = refl }))
+
+  pub has_none : first_word_fault given ≡ None → first_unbuilt given ≡ None → ¬ IsTooLarge given → HasNone (code_faults given) given
+  has_none words e small = record { none_listed = no_code_fault words; supported = supported e; small = small }
 
 -- where symbols and the layout have no fault, what holds of the code holds of all
-pub code-before : (given i : Given) (result : Result Linked LinkFault) → i ≡ given → symbol_faults given ≡ [] → layout_fault given ≡ None
-    → MatchResult result (λ l. (code_fault i ≡ None) × HoldsLinked i l) (FailsWith (code_fault i))
-    → MatchResult result (λ l. (given_fault given ≡ None) × HoldsLinked given l) (FailsWith (given_fault given))
-code-before given i result e none laid holds =
-    made-before (HoldsLinked given) (first_in (symbol_faults given)) (placed_fault given) (given_fault given) result refl (ap first_in none)
-    (made-before (HoldsLinked given) (layout_fault given) (code_fault given) (placed_fault given) result refl laid
-    (subst (λ g. MatchResult result (λ l. (code_fault g ≡ None) × HoldsLinked g l) (FailsWith (code_fault g))) e holds))
+pub code_last : (given i : Given) (result : Result Linked LinkFault) → i ≡ given → symbol_faults given ≡ [] → layout_faults given ≡ []
+    → MatchResult result (λ l. HasNone (code_faults i) i × HoldsLinked i l) (Refuses (IsFirst (code_faults i) i))
+    → MatchResult result (λ l. HasNone (given_faults given) given × HoldsLinked given l) (Refuses (IsFirst (given_faults given) given))
+code_last given i result e none laid holds =
+    none_before (HoldsLinked given) (symbol_faults given) (layout_faults given ++ code_faults given) given result none
+    (none_before (HoldsLinked given) (layout_faults given) (code_faults given) given result laid
+    (subst (λ g. MatchResult result (λ l. HasNone (code_faults g) g × HoldsLinked g l) (Refuses (IsFirst (code_faults g) g))) e holds))
 
 -- the given of objects and wanted names
 abbrev pub given_with : List Object → Wanted → Given
 given_with objects wanted = record { objects = objects; wanted = wanted }
 
+-- the first fault of the objects is that of the link
+pub object_first : (files : List (List ℕ)) (wanted : Wanted) (fault : LinkFault) → Refuses (λ f. first_in (object_faults files) ≡ Some f) fault → Refuses (HasFirstFault files wanted) fault
+unfolding HasFirstFault
+object_first files wanted fault first = refused_before (object_faults files) (given_faults (input_of files wanted)) (input_of files wanted) fault first
+
 -- where files have no fault, what holds of their objects holds of them
-pub objects-before : (files : List (List ℕ)) (wanted : Wanted) (objects : List Object) (result : Result Linked LinkFault) → objects ≡ filter_map object_of files → object_faults files ≡ None
-    → MatchResult result (λ l. (given_fault (given_with objects wanted) ≡ None) × HoldsLinked (given_with objects wanted) l) (FailsWith (given_fault (given_with objects wanted)))
-    → MatchResult result (λ l. (first_fault files wanted ≡ None) × HoldsLinked (given_of files wanted) l) (FailsWith (first_fault files wanted))
-objects-before files wanted objects result e none holds =
-    made-before (HoldsLinked (given_of files wanted)) (object_faults files) (given_fault (given_of files wanted)) (first_fault files wanted) result refl none
-    (subst (λ os. MatchResult result (λ l. (given_fault (given_with os wanted) ≡ None) × HoldsLinked (given_with os wanted) l) (FailsWith (given_fault (given_with os wanted)))) e holds)
+pub objects_last : (files : List (List ℕ)) (wanted : Wanted) (objects : List Object) (result : Result Linked LinkFault) → objects ≡ filter_map object_of files → object_faults files ≡ []
+    → MatchResult result (λ l. HasNone (given_faults (given_with objects wanted)) (given_with objects wanted) × HoldsLinked (given_with objects wanted) l) (Refuses (IsFirst (given_faults (given_with objects wanted)) (given_with objects wanted)))
+    → MatchResult result (λ l. HasNoFault files wanted × HoldsLinked (input_of files wanted) l) (Refuses (HasFirstFault files wanted))
+unfolding HasNoFault HasFirstFault
+objects_last files wanted objects result e none holds =
+    none_before (HoldsLinked (input_of files wanted)) (object_faults files) (given_faults (input_of files wanted)) (input_of files wanted) result none
+    (subst (λ os. MatchResult result (λ l. HasNone (given_faults (given_with os wanted)) (given_with os wanted) × HoldsLinked (given_with os wanted) l) (Refuses (IsFirst (given_faults (given_with os wanted)) (given_with os wanted)))) e holds)

@@ -1,16 +1,15 @@
 -- Steps of a link: the sums of bytes, the jumps of entries, and what is told of files.
 use Rattle.std.proofs.Common.{◌≡◌, ℕ, zero, suc, ◌+◌, ◌-◌, ◌*◌, ◌^◌, ◌<◌, ◌≤◌, List, [], ◌∷◌, ◌++◌, length, take, get_or, Option, Some, None, refl, sym, ap, ◌∙◌, arith}
-use Rattle.std.specs.Prelude.{slice_get, IsSomeAnd, Result, Ok, Err, MatchResult}
+use Rattle.std.specs.Prelude.{slice_get, map, IsSomeAnd, Result, Ok, Err, MatchResult}
 use Rattle.std.specs.Result.{IsErrAnd}
 use Rattle.std.specs.List.{filter_map, cons_option}
+use Rattle.std.specs.Option.{option_map}
 use Rattle.std.proofs.lemmas.Option.{slice_get-get_or}
-use Rattle.faults.specs.First.{first_below}
-use Rattle.faults.specs.Present.{first_in}
-use Rattle.faults.proofs.Firsts.{first_below-more, first_below-found}
+use Rattle.faults.specs.Present.{each_below, first_in}
+use Rattle.faults.proofs.Heads.{none_in}
 use Rattle.elf_objects.specs.Objects.{Object}
 use Rattle.elf_objects.specs.Faults.{faults_of}
 use Rattle.elf_objects.specs.Reading.{object_of, in_object, Refuses}
-use Rattle.elf_objects.specs.declared.fault.Fault.{Fault}
 use Rattle.elf_objects.specs.declared.fault.Refusal.{Refusal}
 use Rattle.elf_objects.specs.declared.fault.ObjectFault.{ObjectFault}
 use Rattle.elf_objects.specs.declared.fault.ObjectFault.TheVariants.{Bad, Memory}
@@ -18,10 +17,11 @@ use Rattle.elf_objects.proofs.Records.{object_of-faulty}
 use Rattle.jump_table.specs.Assembly.{jump, offset}
 use Rattle.pvm_ops.specs.declared.instr.Instr.{Instr}
 use Rattle.link_core.specs.Assembling.{Marked, empty, append}
-use Rattle.link_core.specs.Faults.{object_fault, object_faults, FailsWith}
+use Rattle.link_core.specs.Faults.{faults_in_file, object_faults, Refuses as LinkRefuses}
 use Rattle.link_core.specs.LinkFaults.{of_object}
 use Rattle.link_core.specs.declared.link_fault.LinkFault.{LinkFault}
 use Rattle.link_core.specs.Straight.{jumps_to}
+use Rattle.faults.proofs.Steps.{first_in-map, first_in-found, each_below-more}
 use Rattle.link_core.proofs.Placing.{append-append}
 
 -- the offset forward is the difference
@@ -60,32 +60,33 @@ jumps-step ps at more i code new one lt behind is before here =
     ∙ ap (append empty) (sym (jumps-more 0 ps at p (slice_get-get_or ps at 0 lt)))
     ∙ ap (λ n. append empty (jumps_to 0 (take n ps))) next
 
--- the fault of a file behind files without one is told
-pub file-fails : (files : List (List ℕ)) (at : ℕ) (file : List ℕ) (fault : ObjectFault) → at < length files → first_below at (λ i. object_fault i (slice_get files i)) ≡ None → slice_get files at ≡ Some file → Refuses fault file at → FailsWith (object_faults files) (of_object fault)
+-- the first fault of a file behind files without one is that of all files
+pub file-fails : (files : List (List ℕ)) (at : ℕ) (file : List ℕ) (fault : ObjectFault) → at < length files → each_below at (λ i. faults_in_file i (slice_get files i)) ≡ [] → slice_get files at ≡ Some file → Refuses fault file at → LinkRefuses (λ f. first_in (object_faults files) ≡ Some f) (of_object fault)
 file-fails files at file Memory lt before e refuses = tt
 file-fails files at file (Bad fault) lt before e refuses =
-    first_below-found (λ i. object_fault i (slice_get files i)) (length files) at fault lt before (rw e (by_first (first_in (faults_of file)) refl refuses.1))
+    first_in-found (length files) at (λ i. faults_in_file i (slice_get files i)) fault lt before
+    (ap (λ x. first_in (faults_in_file at x)) e ∙ first_in-map (in_object at) (faults_of file) ∙ by_first (first_in (faults_of file)) refuses.1)
   where
-    by_first : (x : Option Refusal) → first_in (faults_of file) ≡ x → IsSomeAnd x (λ first. fault ≡ in_object at first) → object_fault at (Some file) ≡ Some fault
-    by_first None f is = absurd is
-    by_first (Some first) f is = rw f (ap Some (sym is))
+    by_first : (x : Option Refusal) → IsSomeAnd x (λ first. fault ≡ in_object at first) → option_map (in_object at) x ≡ Some fault
+    by_first None is = absurd is
+    by_first (Some first) is = ap Some (sym is)
 
--- and so a link of the files fails
-pub fails-by : {T : Type 0} (ok : T → Type 0) (first : Option Fault) (result : Result T LinkFault) (fault : ObjectFault) → IsErrAnd result (λ e. e ≡ of_object fault) → FailsWith first (of_object fault) → MatchResult result ok (FailsWith first)
-fails-by ok first (Ok x) fault is told = absurd is
-fails-by ok first (Err e) fault is told = rw is told
+-- a result that is an error is refused as its error is
+pub fails-at : {T : Type 0} (ok : T → Type 0) (refuses : LinkFault → Type 0) (result : Result T LinkFault) (fault : LinkFault) → IsErrAnd result (λ e. e ≡ fault) → refuses fault → MatchResult result ok refuses
+fails-at ok refuses (Ok x) fault is reported = absurd is
+fails-at ok refuses (Err e) fault is reported = rw is reported
 
 -- an object's file has no fault
-pub no-fault : (at : ℕ) (file : List ℕ) (object : Object) → object_of file ≡ Some object → object_fault at (Some file) ≡ None
+pub no-fault : (at : ℕ) (file : List ℕ) (object : Object) → object_of file ≡ Some object → faults_in_file at (Some file) ≡ []
 no-fault at file object e = by_first (first_in (faults_of file)) refl
   where
-    by_first : (x : Option Refusal) → first_in (faults_of file) ≡ x → object_fault at (Some file) ≡ None
-    by_first None f = rw f refl
+    by_first : (x : Option Refusal) → first_in (faults_of file) ≡ x → faults_in_file at (Some file) ≡ []
+    by_first None f = ap (map (in_object at)) (none_in (faults_of file) f)
     by_first (Some first) f = (let none = object_of-faulty file first f in absurd cc)
 
-pub no-faults : (files : List (List ℕ)) (at next : ℕ) (file : List ℕ) (object : Object) → next ≡ at + 1 → first_below at (λ i. object_fault i (slice_get files i)) ≡ None → slice_get files at ≡ Some file → object_of file ≡ Some object → first_below next (λ i. object_fault i (slice_get files i)) ≡ None
+pub no-faults : (files : List (List ℕ)) (at next : ℕ) (file : List ℕ) (object : Object) → next ≡ at + 1 → each_below at (λ i. faults_in_file i (slice_get files i)) ≡ [] → slice_get files at ≡ Some file → object_of file ≡ Some object → each_below next (λ i. faults_in_file i (slice_get files i)) ≡ []
 no-faults files at next file object one before e is =
-    first_below-more (λ i. object_fault i (slice_get files i)) at next one before (rw e (no-fault at file object is))
+    each_below-more at next (λ i. faults_in_file i (slice_get files i)) one before (ap (faults_in_file at) e ∙ no-fault at file object is)
 
 cons-front : {Y : Type 0} (o : Option Y) (ys zs : List Y) → cons_option o (ys ++ zs) ≡ cons_option o ys ++ zs
 cons-front None ys zs = refl

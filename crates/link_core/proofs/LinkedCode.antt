@@ -1,5 +1,5 @@
 -- The code of a link: the jumps of the entries, which all lead behind them, before the instructions of the operations.
-use Rattle.std.proofs.Common.{◌≡◌, ℕ, zero, suc, ◌+◌, ◌*◌, ◌^◌, ◌<◌, ◌≤◌, Bool, true, false, List, [], ◌∷◌, ◌++◌, length, map, take, Some, None, refl, sym, ap, ◌∙◌, arith, length-append, subst}
+use Rattle.std.proofs.Common.{◌≡◌, ℕ, zero, suc, ◌+◌, ◌*◌, ◌^◌, ◌<◌, ◌≤◌, Bool, true, false, List, [], ◌∷◌, ◌++◌, length, map, take, Some, refl, sym, ap, ◌∙◌, arith, length-append, subst}
 use Rattle.std.specs.Prelude.{slice_get, ◌||◌}
 use Rattle.std.specs.List.{AllByRecursion}
 use Rattle.std.proofs.lemmas.List.{length-map}
@@ -8,27 +8,29 @@ use Rattle.runs.specs.Joined.{joined}
 use Rattle.runs.specs.Blocks.{block_of}
 use Rattle.symbols.specs.Wanted.{Given}
 use Rattle.relocs.specs.Places.{CodePlace, Code, Stub, Nowhere, same_place, has, all_places}
-use Rattle.relocs.specs.Words.{raw_at}
+use Rattle.link_core.specs.Supported.{linked_at}
 use Rattle.lift_blocks.specs.Listed.{entry_places, starts, code_places}
 use Rattle.lift_blocks.proofs.Order.{place_self}
 use Rattle.pvm_ops.specs.declared.instr.Instr.{Instr}
 use Rattle.pvm_ops.specs.Opcodes.{form_of}
 use Rattle.pvm_ops.specs.Spelling.{spelling}
-use Rattle.jump_table.specs.Assembly.{spelled, jump, offset, entry_len, start_of}
+use Rattle.jump_table.specs.Assembly.{jump, offset, entry_len, four_each, start_of}
 use Rattle.blob_codec.specs.Grammar.{container_bytes, IsContainer}
 use Rattle.lower.specs.Lowering.{lower_op, lowered_blocks}
 use Rattle.lower.specs.Laws.{EntriesBegin}
 use Rattle.lower.proofs.Lists.{from_map}
-use Rattle.layout.specs.Faults.{layout_fault}
+use Rattle.layout.specs.Faults.{layout_faults}
 use Rattle.layout.specs.Laws.{AlignedIsLeast}
-use Rattle.link_core.specs.Assembling.{Marked, empty, append, container_with}
+use Rattle.link_core.specs.Assembling.{Marked, empty, spelled, append, container_with}
 use Rattle.link_core.specs.Linked.{Linked, IsLinked, HoldsLinked}
 use Rattle.link_core.specs.Laws.{LinkedAgrees}
 use Rattle.link_core.specs.MapText.{entry_lines, data_lines}
 use Rattle.link_core.specs.Straight.{straight, instrs_at, size, first_number, start_of_place, lifted_of, entry_position, entry_positions, jumps_to, straight_instrs, IsStartOf}
 use Rattle.link_core.proofs.Placing.{bytes-append, append-append}
+use Rattle.link_core.proofs.EntryPlaces.{count as entries_count}
 use Rattle.link_core.proofs.LinkSteps.{Behind}
-use Rattle.link_core.proofs.StraightLifted.{IsBuiltAt, before_place, at_index, is_entry}
+use Rattle.link_core.proofs.StraightPlaces.{IsBuiltAt}
+use Rattle.link_core.proofs.StraightLifted.{before_place, at_index, is_entry}
 use Rattle.link_core.proofs.StraightPlaced.{entry_start}
 use Rattle.link_core.proofs.StraightFits.{plain_container, fits}
 use Rattle.link_core.proofs.StraightLinked.{straight_is_linked}
@@ -63,7 +65,7 @@ size-take : (given : Given) (t : ℕ) (ps : List CodePlace) → size (instrs_at 
 size-take given zero ps = omega arith
 size-take given (suc t) [] = omega arith
 size-take given (suc t) (p ∷ ps) =
-    let first = lower_op (straight (raw_at given p)) in
+    let first = lower_op [] (straight (linked_at given p)) in
     omega (arith, size-append first (instrs_at given (take t ps)), size-append first (instrs_at given ps), size-take given t ps)
 
 among : (ps : List CodePlace) (entry : ℕ) (p : CodePlace) → slice_get ps entry ≡ Some p → has ps p ≡ true
@@ -100,7 +102,7 @@ pub positions_len : (given : Given) (positions : List ℕ) → positions ≡ ent
 positions_len given positions e = ap length e ∙ count given
 
 pub names_len : (given : Given) → length (entry_places given) ≡ length given.wanted.entries
-names_len given = length-map given.wanted.entries _
+names_len given = entries_count given
 
 -- the jumps and the instructions behind them
 pub code_is : (given : Given) (positions : List ℕ) (body code : Marked) → positions ≡ entry_positions given → body ≡ append empty (instrs_at given (code_places given)) → code ≡ record { bytes = (append empty (jumps_to 0 positions)).bytes ++ body.bytes; marks = (append empty (jumps_to 0 positions)).marks ++ body.marks } → code ≡ append empty (straight_instrs given)
@@ -115,20 +117,20 @@ pub container_is : (given : Given) (code : Marked) → code ≡ append empty (st
 unfolding append
 container_is given code e = ap (container_with given) e
 
-pub is_container : AlignedIsLeast → (given : Given) (code : Marked) → code ≡ append empty (straight_instrs given) → layout_fault given ≡ None → given.wanted.stack < 2 ^ 24 → size (straight_instrs given) ≤ 2 ^ 25 → IsContainer (container_with given code)
+pub is_container : AlignedIsLeast → (given : Given) (code : Marked) → code ≡ append empty (straight_instrs given) → layout_faults given ≡ [] → given.wanted.stack < 2 ^ 24 → size (straight_instrs given) ≤ 2 ^ 25 → IsContainer (container_with given code)
 is_container aligned_is_least given code e laid small few = subst IsContainer (sym (container_is given code e)) (fits aligned_is_least given (straight_instrs given) laid small few)
 
 module _ (entries_begin : EntriesBegin) (given : Given) (built : AllByRecursion (IsBuiltAt given) (all_places given)) (starts_of : AllByRecursion (IsStartOf given) (entry_places given)) where
-  positions_from : (ps : List CodePlace) → ((entry : ℕ) (p : CodePlace) → slice_get ps entry ≡ Some p → start_of (lowered_blocks (lifted_of given)) (block_of (starts given true (code_places given)) (first_number given p)) ≡ entry_position given p) → map (start_of (lowered_blocks (lifted_of given))) (map (block_of (starts given true (code_places given))) (map (first_number given) ps)) ≡ map (entry_position given) ps
+  positions_from : (ps : List CodePlace) → ((entry : ℕ) (p : CodePlace) → slice_get ps entry ≡ Some p → start_of (four_each (lowered_blocks (lifted_of given))) (lowered_blocks (lifted_of given)) (block_of (starts given true (code_places given)) (first_number given p)) ≡ entry_position given p) → map (start_of (four_each (lowered_blocks (lifted_of given))) (lowered_blocks (lifted_of given))) (map (block_of (starts given true (code_places given))) (map (first_number given) ps)) ≡ map (entry_position given) ps
   positions_from [] each = refl
   positions_from (p ∷ ps) each = rw (each 0 p refl) (ap (λ l. entry_position given p ∷ l) (positions_from ps (λ entry q e. each (suc entry) q e)))
 
   -- the entries begin at their positions
-  pub positions_are : map (start_of (lowered_blocks (lifted_of given))) (lowered_blocks (lifted_of given)).entries ≡ entry_positions given
+  pub positions_are : map (start_of (four_each (lowered_blocks (lifted_of given))) (lowered_blocks (lifted_of given))) (lowered_blocks (lifted_of given)).entries ≡ entry_positions given
   positions_are = positions_from (entry_places given) (λ entry p e. entry_start entries_begin given built starts_of entry p e (among (entry_places given) entry p e) (at_index (IsStartOf given) (entry_places given) entry p starts_of e))
 
   -- what is linked
-  pub holds : LinkedAgrees → AlignedIsLeast → (positions : List ℕ) (code : Marked) (linked : Linked) → positions ≡ entry_positions given → code ≡ append empty (straight_instrs given) → layout_fault given ≡ None → given.wanted.stack < 2 ^ 24 → size (straight_instrs given) ≤ 2 ^ 25
+  pub holds : LinkedAgrees → AlignedIsLeast → (positions : List ℕ) (code : Marked) (linked : Linked) → positions ≡ entry_positions given → code ≡ append empty (straight_instrs given) → layout_faults given ≡ [] → given.wanted.stack < 2 ^ 24 → size (straight_instrs given) ≤ 2 ^ 25
       → linked.container ≡ container_bytes (container_with given code) → linked.map ≡ entry_lines 0 given.wanted.entries positions ++ data_lines given → HoldsLinked given linked
   unfolding straight_is_linked
   holds agrees aligned_is_least positions code linked e is laid small few bytes text =

@@ -7,7 +7,7 @@ use Rattle.std.proofs.lemmas.List.Folds.{list_any_more, list_any_at}
 use Rattle.std.proofs.lemmas.List.FromFn.{get_or-map-range_with_len, length-map-range_with_len, map-range_with_len_more}
 use Rattle.std.proofs.lemmas.Option.{slice_get-map, slice_get_within, get_or_from_slice_get, slice_get-get_or}
 use Rattle.symbols.specs.Wanted.{Given}
-use Rattle.relocs.specs.Places.{Code, Nowhere, code_at, sections_of, section_places, object_places, objects_places, same_place, has}
+use Rattle.relocs.specs.Places.{Code, Nowhere, code_at, section_places, object_places, objects_places, same_place, has}
 use Rattle.lift_blocks.specs.Listed.{entry_places, is_emitted, code_places}
 use Rattle.lift_blocks.proofs.Order.{place_self}
 use Rattle.link_core.specs.declared.input.Site.{Site}
@@ -15,11 +15,13 @@ use Rattle.link_core.specs.Sites.{code_place}
 use Rattle.link_core.specs.Straight.{instrs_at, places_before, start_at, entry_position, entry_positions, jumps_to, straight_instrs, size, row_of, IsStartOf, IsStartTable}
 use Rattle.pvm_ops.specs.declared.instr.Instr.{Instr}
 use Rattle.runs.specs.Joined.{joined}
-use Rattle.jump_table.specs.Assembly.{spelled, entry_len}
+use Rattle.jump_table.specs.Assembly.{entry_len}
+use Rattle.link_core.specs.Assembling.{spelled}
 use Rattle.link_core.proofs.Placing.{bytes-append}
 use Rattle.link_core.proofs.PlacedWords.{instrs_append}
 use Rattle.link_core.proofs.StraightEmitted.{place_same}
 use Rattle.link_core.proofs.StraightLifted.{at_index, split, code_within, some_sections, filter_append}
+use Rattle.symbols.specs.Parts.{sections_of}
 
 -- an entry's place is the start of its section
 at_start : (given : Given) (site : Site) → IsStartOf given (code_place site) → code_place site ≡ Code site.object site.section 0
@@ -86,7 +88,7 @@ module _ (given : Given) (all : AllByRecursion (IsStartOf given) (entry_places g
       let s = site.section in
       let sp = split given o s code.0 (code_within given o s code.0 code.1) code.1 in
       let before = objects_places given 0 o ++ object_places given o 0 s in
-      let rest = section_places o s (Some code.0) ++ sp.rest in
+      let rest = section_places given o s (Some code.0) ++ sp.rest in
       let listed : code_places given ≡ places_before given site.object site.section ++ filter (is_emitted given) rest = ap (filter (is_emitted given)) sp.is ∙ filter_append (is_emitted given) before rest in
       let instrs : size (instrs_at given (code_places given)) ≡ start_at given site.object site.section + size (instrs_at given (filter (is_emitted given) rest)) =
       ap (λ ps. size (instrs_at given ps)) listed ∙ ap size (instrs_append given (places_before given o s) (filter (is_emitted given) rest))

@@ -6,16 +6,16 @@ use Rattle.std.proofs.lemmas.Bool.{lt-ltb}
 use Rattle.rv_decode.specs.declared.ops.RvOp.{RvOp}
 use Rattle.rv_decode.specs.declared.ops.RvOp.TheVariants as rv
 use Rattle.pvm_ops.specs.declared.instr.Instr.{Instr}
-use Rattle.jump_table.specs.Laws.{IsPlainInstr}
+use Rattle.jump_table.specs.Laws.{IsPlaceable, IsPlainInstr}
 use Rattle.lower.specs.Lowering.{lower_op}
 use Rattle.lower.specs.Plain.{lower_plain, listed, IsLowerable}
 use Rattle.lower.specs.declared.forms.Three.{Three}
-use Rattle.link_core.specs.Assembling.{Marked, append, IsPlaceable}
+use Rattle.link_core.specs.Assembling.{Marked, append}
 use Rattle.link_core.specs.Straight.{straight}
 use Rattle.link_core.proofs.Placing.{append-append}
 
 -- an operation that can be lowered alone has the instructions of its row
-pub alone_straight : (op : RvOp) → IsLowerable op → lower_op (straight (Some op)) ≡ lower_plain op
+pub alone_straight : (op : RvOp) → IsLowerable op → lower_op [] (straight (Some op)) ≡ lower_plain op
 alone_straight (rv.Jalr rd rs1 imm) h = absurd h
 alone_straight (rv.Lui rd value) h = refl
 alone_straight (rv.Auipc rd value) h = refl

@@ -6,7 +6,7 @@ use Rattle.runs.specs.Marks.{marks, others}
 use Rattle.pvm_ops.specs.declared.instr.Instr.{Instr}
 use Rattle.pvm_ops.specs.Opcodes.{form_of}
 use Rattle.pvm_ops.specs.Spelling.{spelling, fields}
-use Rattle.jump_table.specs.Assembly.{spelled}
+use Rattle.link_core.specs.Assembling.{spelled}
 use Rattle.link_core.specs.Assembling.{Marked, append}
 
 pub bytes-append : (xs ys : List Instr) → joined (spelled (xs ++ ys)) ≡ joined (spelled xs) ++ joined (spelled ys)

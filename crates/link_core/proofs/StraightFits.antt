@@ -1,12 +1,13 @@
 -- The container of code that is short enough can be spelled.
-use Rattle.std.proofs.Common.{◌≡◌, ℕ, ◌+◌, ◌-◌, ◌/◌, ◌%◌, ◌^◌, ◌<◌, ◌≤◌, Bool, true, false, List, [], ◌∷◌, ◌++◌, length, map, Option, None, refl, subst, arith, length-append, ap, ◌∙◌}
+use Rattle.std.proofs.Common.{◌≡◌, ℕ, ◌+◌, ◌-◌, ◌/◌, ◌%◌, ◌^◌, ◌<◌, ◌≤◌, List, [], ◌∷◌, ◌++◌, length, map, refl, subst, arith, length-append, ap, ◌∙◌}
 use Rattle.std.specs.Prelude.{slice_index, nat_lt}
 use Rattle.std.proofs.lemmas.Bool.{ltb-false}
-use Rattle.faults.specs.First.{◌or_else◌, where_true}
+use Rattle.faults.specs.Present.{broken}
+use Rattle.faults.proofs.Absent.{none-left, none-right, none-broken}
 use Rattle.elf_objects.specs.declared.fault.Fault.{Fault}
 use Rattle.symbols.specs.Wanted.{Given}
 use Rattle.layout.specs.Addresses.{read_only_len, writable_len, zero_pages}
-use Rattle.layout.specs.Faults.{layout_fault}
+use Rattle.layout.specs.Faults.{whole, layout_faults}
 use Rattle.layout.specs.Laws.{AlignedIsLeast}
 use Rattle.relocs.specs.Images.{read_only_image, writable_image}
 use Rattle.numbers.proofs.BytesLaws.{length-little}
@@ -17,7 +18,7 @@ use Rattle.pvm_ops.specs.declared.instr.Instr.{Instr}
 use Rattle.pvm_ops.specs.Listing.{Listing, packed}
 use Rattle.pvm_ops.proofs.Padding.{packed_is_padded}
 use Rattle.pvm_ops.proofs.Masks.{length-packed}
-use Rattle.jump_table.specs.Assembly.{spelled}
+use Rattle.link_core.specs.Assembling.{spelled}
 use Rattle.link_core.proofs.Images.{read_only_length, writable_length}
 use Rattle.blob_codec.specs.Grammar.{natural_len, natural, Program, Container, program_bytes, IsContainer}
 
@@ -43,20 +44,18 @@ pub record PartsFit (given : Given) : Type 0 where
   pub writable : writable_len given < 2 ^ 24
   pub zero_pages_fit : zero_pages given < 2 ^ 16
 
--- a choice that comes to nothing was not taken
-not_less : (m n : ℕ) (fault : Fault) (rest : Option Fault) → (where_true (nat_lt m n) fault or_else rest) ≡ None → (n ≤ m) × (rest ≡ None)
-not_less m n fault rest e = by_test (nat_lt m n) refl e
-  where
-    by_test : (b : Bool) → nat_lt m n ≡ b → (where_true b fault or_else rest) ≡ None → (n ≤ m) × (rest ≡ None)
-    by_test true t f = absurd cc
-    by_test false t f = (ltb-false m n t, f)
+-- where a fault of too large a number isn't present, the number is within its limit
+within : (m n : ℕ) (fault : Fault) → broken (nat_lt m n) fault ≡ [] → n ≤ m
+within m n fault e = ltb-false m n (none-broken (nat_lt m n) fault e)
 
-pub parts_fit : (given : Given) → layout_fault given ≡ None → PartsFit given
+pub parts_fit : (given : Given) → layout_faults given ≡ [] → PartsFit given
 parts_fit given e =
-    let first = not_less (2 ^ 24 - 1) (read_only_len given) _ _ e in
-    let second = not_less (2 ^ 24 - 1) (writable_len given) _ _ first.1 in
-    let third = not_less 65535 (zero_pages given) _ _ second.1 in
-    record { read_only = omega (arith, first.0); writable = omega (arith, second.0); zero_pages_fit = omega (arith, third.0) }
+    let behind_first = none-right (broken (nat_lt (2 ^ 24 - 1) (read_only_len given)) (whole 14)) _ e in
+    let behind_second = none-right (broken (nat_lt (2 ^ 24 - 1) (writable_len given)) (whole 15)) _ behind_first in
+    let first = within (2 ^ 24 - 1) (read_only_len given) (whole 14) (none-left _ _ e) in
+    let second = within (2 ^ 24 - 1) (writable_len given) (whole 15) (none-left _ _ behind_first) in
+    let third = within 65535 (zero_pages given) (whole 16) (none-left _ _ behind_second) in
+    record { read_only = omega (arith, first); writable = omega (arith, second); zero_pages_fit = omega (arith, third) }
 
 natural_len-le : (x : ℕ) → natural_len x ≤ 8
 unfolding natural_len
@@ -92,7 +91,7 @@ padding_is instrs =
     let marked = joined (map marks ws) in
     subst (λ n. slice_index (packed marked) (n / 8) / 2 ^ (n % 8) ≡ 0) (marked_size ws) (packed_is_padded marked)
 
-pub fits : AlignedIsLeast → (given : Given) (instrs : List Instr) → layout_fault given ≡ None → given.wanted.stack < 2 ^ 24 → length (listing_of instrs).bytes ≤ 2 ^ 25 → IsContainer (plain_container given instrs)
+pub fits : AlignedIsLeast → (given : Given) (instrs : List Instr) → layout_faults given ≡ [] → given.wanted.stack < 2 ^ 24 → length (listing_of instrs).bytes ≤ 2 ^ 25 → IsContainer (plain_container given instrs)
 fits aligned_is_least given instrs laid small few = record {
   read_only = omega (arith, read_only_length aligned_is_least given, (parts_fit given laid).read_only);
   writable = omega (arith, writable_length aligned_is_least given, (parts_fit given laid).writable);

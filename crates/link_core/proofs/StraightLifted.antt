@@ -1,27 +1,23 @@
 -- The operations in code order are those of the places.
 use Rattle.std.proofs.Common.{◌≡◌, ℕ, zero, suc, ◌+◌, ◌-◌, ◌<◌, Bool, true, false, List, [], ◌∷◌, ◌++◌, length, map, Option, Some, None, refl, sym, ap, ◌∙◌, arith, append_assoc, subst, length-append, take, ◌/◌}
 use Rattle.std.specs.Prelude.{slice_get, cond, not, ◌||◌}
-use Rattle.std.specs.List.{filter, list_any, AllByRecursion}
+use Rattle.std.specs.List.{filter, filter_map, list_any, AllByRecursion}
 use Rattle.std.proofs.Math.Seq.{take-append_seam}
 use Rattle.std.proofs.lemmas.List.{length-map}
 use Rattle.std.proofs.lemmas.Option.{slice_get_within}
-use Rattle.rv_decode.specs.declared.ops.RvOp.{RvOp}
 use Rattle.elf_objects.specs.Objects.{Object, Section}
 use Rattle.symbols.specs.Wanted.{Given}
-use Rattle.relocs.specs.Places.{CodePlace, Code, Stub, Nowhere, sections_of, code_at, places_from, section_places, object_places, objects_places, all_places, same_place, has, code_if, is_kept}
-use Rattle.relocs.specs.Words.{raw_at}
+use Rattle.relocs.specs.Places.{CodePlace, Code, Stub, Nowhere, code_at, places_from, section_places, object_places, objects_places, all_places, same_place, has, code_if}
+use Rattle.lift_blocks.specs.Operations.{Operation, rename, operation_at}
 use Rattle.relocs.specs.AddressMap.{needed_places}
-use Rattle.lift_blocks.specs.Operations.{Operation, rename, placed_op, operation_at}
-use Rattle.lift_blocks.specs.Listed.{IsLifted, entry_places, is_end, onward_places, aimed_places, is_emitted, code_places, place, or_nowhere}
-use Rattle.lift_blocks.proofs.Order.{place_self}
+use Rattle.lift_blocks.specs.Listed.{IsLifted, entry_places, target_at, is_end, onward_places, aimed_places, is_emitted, code_places, place, or_nowhere}
+use Rattle.lift_blocks.proofs.Order.{place_self, any_front}
 use Rattle.lower.proofs.Lists.{from_map}
-use Rattle.link_core.specs.Straight.{is_straight, straight, ops_at, places_before, first_number, lifted_of, IsStartOf}
-use Rattle.link_core.proofs.StraightPlaces.{NamesNone, is_placed, none_needed, aimed_are}
+use Rattle.link_core.specs.Supported.{linked_at}
+use Rattle.link_core.specs.Straight.{straight, ops_at, places_before, first_number, lifted_of, IsStartOf}
+use Rattle.link_core.proofs.StraightPlaces.{IsBuiltAt, operation_is, none_needed}
 use Rattle.link_core.proofs.StraightStanding.{straight_there}
-
--- an operation stands at each of these places
-abbrev pub IsBuiltAt : Given → CodePlace → Type 0
-IsBuiltAt given p = (op : RvOp) × (raw_at given p ≡ Some op)
+use Rattle.symbols.specs.Parts.{sections_of}
 
 or_true : (b : Bool) → (b || true) ≡ true
 or_true true = refl
@@ -54,8 +50,8 @@ object_split given o s zero m = (let e : s + 0 ≡ s = omega arith in let f : 0 
 object_split given o s (suc n) m =
     let e : suc n + m ≡ suc (n + m) = omega arith in
     let f : s + suc n ≡ (s + 1) + n = omega arith in
-    rw (e, f) (ap (λ l. section_places o s (code_at given o s) ++ l) (object_split given o (s + 1) n m)
-    ∙ sym (append_assoc (section_places o s (code_at given o s)) (object_places given o (s + 1) n) (object_places given o ((s + 1) + n) m)))
+    rw (e, f) (ap (λ l. section_places given o s (code_at given o s) ++ l) (object_split given o (s + 1) n m)
+    ∙ sym (append_assoc (section_places given o s (code_at given o s)) (object_places given o (s + 1) n) (object_places given o ((s + 1) + n) m)))
 
 -- so many objects, and then more
 pub objects_split : (given : Given) (o n m : ℕ) → objects_places given o (n + m) ≡ objects_places given o n ++ objects_places given (o + n) m
@@ -78,7 +74,7 @@ any_back test (x ∷ xs) ys h = rw (any_back test xs ys h) (or_true (test x))
 pub code_within : (given : Given) (o s : ℕ) (bytes : List ℕ) → code_at given o s ≡ Some bytes → s < length (sections_of (slice_get given.objects o))
 code_within given o s bytes e = by_section (slice_get (sections_of (slice_get given.objects o)) s) refl e
   where
-    by_section : (x : Option Section) → slice_get (sections_of (slice_get given.objects o)) s ≡ x → code_if (is_kept given o s) x ≡ Some bytes → s < length (sections_of (slice_get given.objects o))
+    by_section : (x : Option Section) → slice_get (sections_of (slice_get given.objects o)) s ≡ x → code_if x ≡ Some bytes → s < length (sections_of (slice_get given.objects o))
     by_section None e h = absurd cc
     by_section (Some section) e h = slice_get_within (sections_of (slice_get given.objects o)) s section e
 
@@ -91,7 +87,7 @@ before_place given Nowhere = []
 -- a section of an object stands behind all before it and before all behind it
 pub record IsSplit (given : Given) (o s : ℕ) (bytes : List ℕ) : Type 0 where
   pub rest : List CodePlace
-  pub is : all_places given ≡ (objects_places given 0 o ++ object_places given o 0 s) ++ (section_places o s (Some bytes) ++ rest)
+  pub is : all_places given ≡ (objects_places given 0 o ++ object_places given o 0 s) ++ (section_places given o s (Some bytes) ++ rest)
 
 pub some_sections : (o : ℕ) (given : Given) (n : ℕ) → n < length (sections_of (slice_get given.objects o)) → o < length given.objects
 some_sections o given n lt = by_object (slice_get given.objects o) refl lt
@@ -113,9 +109,9 @@ split given o s bytes lt code =
     let zero_s : 0 + s ≡ s = omega arith in
     let objects : all_places given ≡ objects_places given 0 o ++ (object_places given o 0 n ++ behind_objects) =
     ap (objects_places given 0) a ∙ objects_split given 0 o (suc (m - (o + 1))) ∙ ap (λ k. objects_places given 0 o ++ objects_places given k (suc (m - (o + 1)))) zero_o in
-    let sections : object_places given o 0 n ≡ object_places given o 0 s ++ (section_places o s (Some bytes) ++ behind_sections) =
+    let sections : object_places given o 0 n ≡ object_places given o 0 s ++ (section_places given o s (Some bytes) ++ behind_sections) =
     ap (object_places given o 0) b ∙ object_split given o 0 s (suc (n - (s + 1))) ∙ ap (λ k. object_places given o 0 s ++ object_places given o k (suc (n - (s + 1)))) zero_s
-    ∙ ap (λ c. object_places given o 0 s ++ (section_places o s c ++ behind_sections)) code in
+    ∙ ap (λ c. object_places given o 0 s ++ (section_places given o s c ++ behind_sections)) code in
     record {
       rest = behind_sections ++ behind_objects;
       is = objects ∙ ap (λ l. objects_places given 0 o ++ (l ++ behind_objects)) sections ∙ simp append_assoc;
@@ -124,7 +120,8 @@ split given o s bytes lt code =
 -- the start of a section that an entry aims at is emitted
 start_emitted : (given : Given) (p : CodePlace) → has (entry_places given) p ≡ true → is_emitted given p ≡ true
 start_emitted given p h =
-    let aimed : has (aimed_places given) p ≡ true = ap (λ ps. has ps p) (aimed_are given (straight_there given)) ∙ h in
+    let targets = filter_map (target_at given) (all_places given) in
+    let aimed : has (aimed_places given) p ≡ true = any_front (same_place p) (entry_places given ++ targets) (needed_places given) (any_front (same_place p) (entry_places given) targets h) in
     let among : has (onward_places given ++ aimed_places given) p ≡ true = any_back (same_place p) (onward_places given) (aimed_places given) aimed in
     rw among (or_true (not (is_end given p)))
 
@@ -134,12 +131,12 @@ pub record IsEntry (given : Given) (p : CodePlace) : Type 0 where
   pub there : place (code_places given) (first_number given p) ≡ p
   pub front : take (first_number given p) (code_places given) ≡ before_place given p
 
-first_emitted : (given : Given) (o s : ℕ) (bytes rest : List ℕ) → is_emitted given (Code o s 0) ≡ true → (later : List CodePlace) × (filter (is_emitted given) (section_places o s (Some bytes)) ≡ Code o s 0 ∷ later)
+first_emitted : (given : Given) (o s : ℕ) (bytes rest : List ℕ) → is_emitted given (Code o s 0) ≡ true → (later : List CodePlace) × (filter (is_emitted given) (section_places given o s (Some bytes)) ≡ Code o s 0 ∷ later)
 first_emitted given o s bytes rest e = by_count (length bytes / 4 + 1) (omega arith)
   where
-    by_count : (n : ℕ) → 0 < n → (later : List CodePlace) × (filter (is_emitted given) (places_from o s 0 n) ≡ Code o s 0 ∷ later)
+    by_count : (n : ℕ) → 0 < n → (later : List CodePlace) × (filter (is_emitted given) (places_from given o s 0 n) ≡ Code o s 0 ∷ later)
     by_count zero lt = absurd (omega (arith, lt))
-    by_count (suc n) lt = (filter (is_emitted given) (places_from o s 4 n), rw e refl)
+    by_count (suc n) lt = (filter (is_emitted given) (places_from given o s 4 n), rw e refl)
 
 pub is_entry : (given : Given) (p : CodePlace) → has (entry_places given) p ≡ true → IsStartOf given p → IsEntry given p
 is_entry given p h start =
@@ -152,8 +149,8 @@ is_entry given p h start =
     let test = is_emitted given in
     let before = objects_places given 0 o ++ object_places given o 0 s in
     let listed : code_places given ≡ places_before given o s ++ (Code o s 0 ∷ (first.0 ++ filter test sp.rest)) =
-    ap (filter test) sp.is ∙ filter_append test before (section_places o s (Some bytes) ++ sp.rest)
-    ∙ ap (λ l. places_before given o s ++ l) (filter_append test (section_places o s (Some bytes)) sp.rest ∙ ap (λ l. l ++ filter test sp.rest) first.1) in
+    ap (filter test) sp.is ∙ filter_append test before (section_places given o s (Some bytes) ++ sp.rest)
+    ∙ ap (λ l. places_before given o s ++ l) (filter_append test (section_places given o s (Some bytes)) sp.rest ∙ ap (λ l. l ++ filter test sp.rest) first.1) in
     subst (IsEntry given) (sym start.is) (record {
       within = omega (arith, ap length listed, length-append (places_before given o s) (Code o s 0 ∷ (first.0 ++ filter test sp.rest)));
       there = ap (λ l. place l (length (places_before given o s))) listed ∙ ap or_nowhere (at_behind (places_before given o s) (Code o s 0) (first.0 ++ filter test sp.rest));
@@ -164,31 +161,25 @@ is_entry given p h start =
 pub is_lifted : (given : Given) → AllByRecursion (IsBuiltAt given) (all_places given) → AllByRecursion (IsStartOf given) (entry_places given) → IsLifted given (lifted_of given)
 is_lifted given built starts_of = record {
   places_are = refl;
-  count = length-map (code_places given) (λ p. straight (raw_at given p));
+  count = length-map (code_places given) (λ p. straight (linked_at given p));
   ops_are = ops_are;
   begins_are = refl;
   entries_are = entries_are (entry_places given) (λ p e. e) starts_of;
   entries_stand = stand (entry_places given) (λ p e. e) starts_of;
-  needed_are = sym (none_needed given (straight_there given));
+  needed_are = sym (none_needed given (straight_there given) built);
+  few_needed = omega arith;
   needed_stand = λ i t e. absurd cc;
 }
   where
     built_there : AllByRecursion (IsBuiltAt given) (code_places given)
     built_there = all_filter (IsBuiltAt given) (is_emitted given) (all_places given) built
 
-    op_is : (p : CodePlace) (op : Operation ℕ) → IsBuiltAt given p → straight (raw_at given p) ≡ op → operation_at given p ≡ Some (rename (place (code_places given)) op)
-    op_is p op here e =
-        let names_none : is_straight here.0 ≡ true = by_raw p here.0 here.1 (straight_there given p) in
-        ap (placed_op (needed_places given) given p) here.1
-        ∙ is_placed (needed_places given) given p (place (code_places given)) here.0 names_none
-        ∙ ap (λ x. Some (rename (place (code_places given)) x)) (ap straight (sym here.1) ∙ e)
-      where
-        by_raw : (p : CodePlace) (op : RvOp) → raw_at given p ≡ Some op → NamesNone (raw_at given p) → is_straight op ≡ true
-        by_raw p op e h = rw e at h
+    op_is : (p : CodePlace) (op : Operation ℕ) → IsBuiltAt given p → straight (linked_at given p) ≡ op → operation_at given p ≡ Some (rename (place (code_places given)) op)
+    op_is p op here e = operation_is given p (place (code_places given)) here (straight_there given p) ∙ ap (λ x. Some (rename (place (code_places given)) x)) e
 
     ops_are : (q : ℕ) (op : Operation ℕ) → slice_get (ops_at given (code_places given)) q ≡ Some op → operation_at given (place (code_places given) q) ≡ Some (rename (place (code_places given)) op)
     ops_are q op e =
-        let from = from_map (λ p. straight (raw_at given p)) (code_places given) q op e in
+        let from = from_map (λ p. straight (linked_at given p)) (code_places given) q op e in
         let here = at_index (IsBuiltAt given) (code_places given) q from.x built_there from.there in
         rw (from.there) (op_is from.x op here from.is)
 

@@ -6,10 +6,8 @@ use Rattle.faults.specs.First.{least_below}
 use Rattle.faults.proofs.Firsts.{least_below-zero, least_below-more, least_below-found}
 use Rattle.elf_objects.specs.declared.fault.Fault.{Fault}
 use Rattle.elf_objects.specs.declared.parts.Section as lent_section
-use Rattle.elf_objects.specs.Objects.{Section, Object, ShowsSection, relocations_in, relocations_of}
-use Rattle.symbols.specs.Parts.{object_at, no_object}
-use Rattle.symbols.specs.Faults.{is_loaded}
-use Rattle.relocs.specs.Places.{sections_of}
+use Rattle.elf_objects.specs.Objects.{Section, Object, ShowsSection, relocations_in, relocations_of, is_loaded_kind}
+use Rattle.symbols.specs.Parts.{object_at, no_object, sections_of}
 use Rattle.layout.specs.Sections.{is_code}
 use Rattle.link_core.specs.Unbuilt.{lesser, least_among, earlier, earliest_among, effect_offset, relocation_offset, has_unlinked, word_count, word_offset, section_offset}
 
@@ -53,18 +51,18 @@ relocation_offset_is objects o s least n count is within = by_object (slice_get 
     by_object (Some object) count is lt = by_section (slice_get object.sections s) object.sections refl lt count is
 
 -- what is found in a section that is lent is what is found in it
-pub section_offset_is : (lent : lent_section.Section) (x : Option Section) (relocation word found : Option ℕ) → IsSomeAnd x (ShowsSection lent) → (is_loaded lent.kind ≡ true → IsSomeAnd x (λ s. relocation ≡ relocation_offset s)) → (is_loaded lent.kind ≡ false → relocation ≡ None) → word ≡ (if is_code lent.kind then word_offset lent.content.now else None)
+pub section_offset_is : (lent : lent_section.Section) (x : Option Section) (relocation word found : Option ℕ) → IsSomeAnd x (ShowsSection lent) → (is_loaded_kind lent.kind ≡ true → IsSomeAnd x (λ s. relocation ≡ relocation_offset s)) → (is_loaded_kind lent.kind ≡ false → relocation ≡ None) → word ≡ (if is_code lent.kind then word_offset lent.content.now else None)
     → found ≡ lesser relocation word → IsSomeAnd x (λ s. found ≡ section_offset s)
 section_offset_is lent None relocation word found shows loaded unloaded is_word is_found = absurd shows
 section_offset_is lent (Some section) relocation word found shows loaded unloaded is_word is_found =
-    let rel : relocation ≡ (if is_loaded lent.kind then relocation_offset section else None) = by_loaded (is_loaded lent.kind) refl in
+    let rel : relocation ≡ (if is_loaded_kind lent.kind then relocation_offset section else None) = by_loaded (is_loaded_kind lent.kind) refl in
     is_found
     ∙ ap (λ r. lesser r word) rel
-    ∙ ap (λ w. lesser (if is_loaded lent.kind then relocation_offset section else None) w) is_word
-    ∙ ap (λ content. lesser (if is_loaded lent.kind then relocation_offset section else None) (if is_code lent.kind then word_offset content else None)) shows.content
-    ∙ ap (λ kind. lesser (if is_loaded kind then relocation_offset section else None) (if is_code kind then word_offset section.content else None)) shows.kind
+    ∙ ap (λ w. lesser (if is_loaded_kind lent.kind then relocation_offset section else None) w) is_word
+    ∙ ap (λ content. lesser (if is_loaded_kind lent.kind then relocation_offset section else None) (if is_code lent.kind then word_offset content else None)) shows.content
+    ∙ ap (λ kind. lesser (if is_loaded_kind kind then relocation_offset section else None) (if is_code kind then word_offset section.content else None)) shows.kind
   where
-    by_loaded : (b : Bool) → is_loaded lent.kind ≡ b → relocation ≡ (if b then relocation_offset section else None)
+    by_loaded : (b : Bool) → is_loaded_kind lent.kind ≡ b → relocation ≡ (if b then relocation_offset section else None)
     by_loaded true e = loaded e
     by_loaded false e = unloaded e
 

@@ -1,5 +1,5 @@
 -- Code as it is put together: bytes, with a mark for each.
-use Rattle.std.specs.Prelude.{ℕ, List, [], ◌++◌, Bool, IsTrue, map}
+use Rattle.std.specs.Prelude.{ℕ, List, [], ◌++◌, Bool, map}
 use Rattle.runs.specs.Joined.{joined}
 use Rattle.runs.specs.Marks.{marks}
 use Rattle.symbols.specs.Wanted.{Given}
@@ -8,9 +8,8 @@ use Rattle.relocs.specs.Images.{read_only_image, writable_image}
 use Rattle.blob_codec.specs.Grammar.{Container, program_with}
 use Rattle.pvm_ops.specs.declared.instr.Instr.{Instr}
 use Rattle.pvm_ops.specs.Listing.{packed}
-use Rattle.pvm_ops.specs.Opcodes.{is_known}
-use Rattle.pvm_ops.specs.Spelling.{IsEncodable}
-use Rattle.jump_table.specs.Assembly.{spelled, offset_len}
+use Rattle.pvm_ops.specs.Spelling.{spelling}
+use Rattle.jump_table.specs.Assembly.{offset_len}
 
 -- bytes, and for each whether an instruction begins with it
 pub record Marked : Type 0 where
@@ -21,14 +20,13 @@ pub record Marked : Type 0 where
 abbrev pub empty : Marked
 empty = record { bytes = []; marks = [] }
 
+-- instructions as bytes, one word for each, with four bytes for an offset
+abbrev pub spelled : List Instr → List (List ℕ)
+spelled instrs = map (λ i. spelling i offset_len) instrs
+
 -- instructions behind what there is
 unfoldable pub append : Marked → List Instr → Marked
 append m instrs = record { bytes = m.bytes ++ joined (spelled instrs); marks = m.marks ++ joined (map marks (spelled instrs)) }
-
--- the instruction can be spelled
-pub record IsPlaceable (i : Instr) : Type 0 where
-  pub known : IsTrue (is_known i.op)
-  pub encodable : IsEncodable i offset_len
 
 -- the container of the objects' data and of code without a jump table
 abbrev pub container_with : Given → Marked → Container

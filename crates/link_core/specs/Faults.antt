@@ -1,58 +1,90 @@
--- The faults of a link, in the order in which the first of them is told: those of the objects, those of symbols and
--- entries, too much data or code, words without an operation, what isn't linked so far, and too large a program.
-use Rattle.std.specs.Prelude.{◌≡◌, ℕ, ◌^◌, List, length, nat_lt, Option, Some, None, slice_get}
-use Rattle.std.specs.Option.{option_map}
+-- The faults of a link in their order: those of the objects, of symbols and entries, too much data or code, those of code,
+-- what is not supported yet, and a program that is too large.
+use Rattle.std.specs.Prelude.{◌≡◌, ◌⊎◌, ℕ, ◌<◌, ◌^◌, List, [], length, map, Option, Some, None, slice_get}
 use Rattle.std.specs.List.{filter_map}
-use Rattle.faults.specs.First.{◌or_else◌, where_true, first_below}
-use Rattle.faults.specs.Present.{first_in}
+use Rattle.faults.specs.Present.{◌followed_by◌, each_below, first_in}
 use Rattle.elf_objects.specs.declared.fault.Fault.{Fault}
 use Rattle.elf_objects.specs.Faults.{faults_of}
 use Rattle.elf_objects.specs.Reading.{in_object, object_of}
 use Rattle.symbols.specs.Wanted.{Wanted, Given}
 use Rattle.symbols.specs.Faults.{symbol_faults}
-use Rattle.layout.specs.Faults.{whole, layout_fault}
-use Rattle.link_core.specs.Straight.{size, straight_instrs}
-use Rattle.link_core.specs.Unbuilt.{first_unbuilt}
-use Rattle.link_core.specs.WordFaults.{first_word_fault}
+use Rattle.layout.specs.Faults.{whole, layout_faults}
+use Rattle.lift_blocks.specs.Listed.{Lifted, IsLifted}
+use Rattle.lower.specs.Lowering.{lowered_blocks}
+use Rattle.jump_table.specs.Assembly.{code_of}
+use Rattle.jump_table.specs.Laws.{AreLengths}
+use Rattle.link_core.specs.CodeFaults.{code_faults}
+use Rattle.link_core.specs.Unsupported.{is_unsupported, IsLeastPlace, IsSupported}
 use Rattle.link_core.specs.declared.linker.TheConstants.{CODE_BYTES_TOO_LARGE}
 use Rattle.link_core.specs.declared.link_fault.LinkFault.{LinkFault}
 use Rattle.link_core.specs.declared.link_fault.LinkFault.TheVariants.{Bad, Memory}
 
--- the fault of the file that is to be the object with a number
-abbrev pub object_fault : ℕ → Option (List ℕ) → Option Fault
-object_fault number None = None
-object_fault number (Some file) = option_map (in_object number) (first_in (faults_of file))
+-- the faults of a file, as those of the object with a number
+abbrev pub faults_in_file : ℕ → Option (List ℕ) → List Fault
+faults_in_file number None = []
+faults_in_file number (Some file) = map (in_object number) (faults_of file)
 
--- the fault of the first file that has one
-abbrev pub object_faults : List (List ℕ) → Option Fault
-object_faults files = first_below (length files) (λ at. object_fault at (slice_get files at))
+-- the faults of the objects, one file after another
+abbrev pub object_faults : List (List ℕ) → List Fault
+object_faults files = each_below (length files) (λ at. faults_in_file at (slice_get files at))
 
--- What files and wanted names give a link: the objects that the files are.
-abbrev pub given_of : List (List ℕ) → Wanted → Given
-given_of files wanted = record { objects = filter_map object_of files; wanted = wanted }
+-- The link's input: the objects that the files are, and the wanted names.
+abbrev pub input_of : List (List ℕ) → Wanted → Given
+input_of files wanted = record { objects = filter_map object_of files; wanted = wanted }
 
--- more than 2^25 bytes in the program's code
-abbrev pub bytes_fault : Given → Option Fault
-bytes_fault given = where_true (nat_lt (2 ^ 25) (size (straight_instrs given))) (whole CODE_BYTES_TOO_LARGE)
+-- the faults of objects whose files have none
+abbrev pub given_faults : Given → List Fault
+given_faults given = symbol_faults given followed_by layout_faults given followed_by code_faults given
 
--- of code
-abbrev pub code_fault : Given → Option Fault
-code_fault given =
-    first_word_fault given or_else first_unbuilt given or_else bytes_fault given
+-- All faults of a link but what is not supported yet, and the size of the program.
+abbrev pub listed_faults : List (List ℕ) → Wanted → List Fault
+listed_faults files wanted = object_faults files followed_by given_faults (input_of files wanted)
 
--- of data and code
-abbrev pub placed_fault : Given → Option Fault
-placed_fault given = layout_fault given or_else code_fault given
+-- The program of the operations in code order has more than 2^25 bytes of code.
+pub record IsTooLarge (given : Given) : Type 0 where
+  pub lifted : Lifted
+  pub is_lifted : IsLifted given lifted
+  pub lengths : List ℕ
+  pub lengths_are : AreLengths (lowered_blocks lifted) lengths
+  pub large : 2 ^ 25 < length (code_of lengths (lowered_blocks lifted)).bytes
 
--- of objects without a fault of their own, with wanted names
-abbrev pub given_fault : Given → Option Fault
-given_fault given = first_in (symbol_faults given) or_else placed_fault given
+-- no fault is listed, everything is supported, and the program isn't too large
+pub record HasNone (listed : List Fault) (given : Given) : Type 0 where
+  pub none_listed : listed ≡ []
+  pub supported : IsSupported given
+  pub small : ¬ IsTooLarge given
 
--- The first fault of a link of files with wanted names. None where it can be linked.
-abbrev pub first_fault : List (List ℕ) → Wanted → Option Fault
-first_fault files wanted = object_faults files or_else given_fault (given_of files wanted)
+-- no fault is listed, and this is that of the first place with something that is not supported yet
+pub record HasUnsupported (listed : List Fault) (given : Given) (fault : Fault) : Type 0 where
+  pub none_listed : listed ≡ []
+  pub first : IsLeastPlace (is_unsupported given) fault
 
--- the first fault is told; memory may be refused at any time
-abbrev pub FailsWith : Option Fault → LinkFault → Type 0
-FailsWith first (Bad fault) = first ≡ Some fault
-FailsWith first Memory = Unit {0}
+-- no fault is listed, everything is supported, and this is that of a program that is too large
+pub record HasSizeFault (listed : List Fault) (given : Given) (fault : Fault) : Type 0 where
+  pub none_listed : listed ≡ []
+  pub supported : IsSupported given
+  pub large : IsTooLarge given
+  pub is : fault ≡ whole CODE_BYTES_TOO_LARGE
+
+-- the first of the listed faults, else what is not supported yet, else the size
+abbrev pub IsFirst : List Fault → Given → Fault → Type 0
+IsFirst listed given fault =
+    (first_in listed ≡ Some fault) ⊎ (HasUnsupported listed given fault ⊎ HasSizeFault listed given fault)
+
+-- files can be linked with wanted names
+unfoldable pub HasNoFault : List (List ℕ) → Wanted → Type 0
+HasNoFault files wanted = HasNone (listed_faults files wanted) (input_of files wanted)
+
+-- the first fault of a link of files with wanted names
+unfoldable pub HasFirstFault : List (List ℕ) → Wanted → Fault → Type 0
+HasFirstFault files wanted fault = IsFirst (listed_faults files wanted) (input_of files wanted) fault
+
+-- the first fault is reported; an allocation may fail at any time
+abbrev pub Refuses : (Fault → Type 0) → LinkFault → Type 0
+Refuses is_first (Bad fault) = is_first fault
+Refuses is_first Memory = Unit {0}
+
+-- A link has at most one first fault, and none where it has no fault.
+pub record FirstFaultIsOne : Type 0 where
+  pub one : (files : List (List ℕ)) (wanted : Wanted) (fault other : Fault) → HasFirstFault files wanted fault → HasFirstFault files wanted other → fault ≡ other
+  pub none : (files : List (List ℕ)) (wanted : Wanted) (fault : Fault) → HasNoFault files wanted → HasFirstFault files wanted fault → ⊥

@@ -2,6 +2,7 @@ pub mod Runs
 pub mod Agrees
 pub mod Linked
 pub mod Laws
+pub mod Supported
 pub mod Straight
 pub mod Unbuilt
 pub mod Assembling
@@ -11,4 +12,7 @@ pub mod Sites
 pub mod MapText
 pub mod Faults
 pub mod WordFaults
+pub mod CodeFaults
+pub mod Unsupported
 pub mod DataParts
+pub mod Hosts

@@ -7,22 +7,23 @@ use Rattle.lift_blocks.specs.Listed.{Lifted, IsLifted}
 use Rattle.lower.specs.Lowering.{lowered_blocks}
 use Rattle.pvm_ops.specs.BlockList.{BlockList}
 use Rattle.jump_table.specs.Assembly.{code_of, table_of, width_of}
+use Rattle.jump_table.specs.Laws.{AreLengths}
 use Rattle.blob_codec.specs.Grammar.{Program, Container, IsContainer, container_bytes}
 use Rattle.link_core.specs.Agrees.{Agrees}
 use Rattle.link_core.specs.MapText.{map_text}
 
--- the program of a list of blocks
-abbrev pub program_of : BlockList → Program
-program_of list = record { table = table_of list; width = width_of (table_of list); code = code_of list }
+-- the program of a list of blocks, where the offsets have these lengths
+abbrev pub program_of : List ℕ → BlockList → Program
+program_of lengths list = record { table = table_of lengths list; width = width_of (table_of lengths list); code = code_of lengths list }
 
 -- the container of the objects' data and of the operations in code order
-abbrev pub container_of : Given → Lifted → Container
-container_of given lifted = record {
+abbrev pub container_of : Given → List ℕ → Lifted → Container
+container_of given lengths lifted = record {
   read_only = read_only_image given;
   writable = writable_image given;
   zero_pages = zero_pages given;
   stack = given.wanted.stack;
-  program = program_of (lowered_blocks lifted);
+  program = program_of lengths (lowered_blocks lifted);
 }
 
 -- The container is that of the objects: their data at their addresses, and their operations in code order, cut into
@@ -30,7 +31,9 @@ container_of given lifted = record {
 pub record IsLinked (given : Given) (c : Container) : Type 0 where
   pub lifted : Lifted
   pub is_lifted : IsLifted given lifted
-  pub container_is : c ≡ container_of given lifted
+  pub lengths : List ℕ
+  pub lengths_are : AreLengths (lowered_blocks lifted) lengths
+  pub container_is : c ≡ container_of given lengths lifted
   pub fits : IsContainer c
   pub small : length c.program.code.bytes ≤ 2 ^ 25
 
@@ -45,4 +48,4 @@ pub record HoldsLinked (given : Given) (linked : Linked) : Type 0 where
   pub spelled : linked.container ≡ container_bytes container
   pub is_linked : IsLinked given container
   pub agrees : Agrees given container
-  pub map_is : linked.map ≡ map_text given is_linked.lifted
+  pub map_is : linked.map ≡ map_text given is_linked.lengths is_linked.lifted

@@ -1,13 +1,13 @@
 -- The map of a linked program as text: so far a line for each entry, and one for each section of data.
-use Rattle.std.specs.Prelude.{ℕ, zero, suc, ◌+◌, List, [], ◌∷◌, ◌++◌, length, map, codes, Bool, ◌&&◌, nat_lt, if◌then◌else◌, Option, Some, None, slice_get}
+use Rattle.std.specs.Prelude.{ℕ, ◌+◌, List, [], ◌∷◌, ◌++◌, length, map, codes, Bool, ◌&&◌, nat_lt, if◌then◌else◌, Option, Some, None, slice_get}
 use Rattle.std.specs.Fmt.{decimal}
 use Rattle.disasm.specs.Digits.{hex_digits}
+use Rattle.disasm.specs.Disassembly.{texts_below}
 use Rattle.elf_objects.specs.declared.parts.SectionKind.{SectionKind}
 use Rattle.elf_objects.specs.Objects.{Section}
-use Rattle.symbols.specs.Wanted.{Given}
+use Rattle.symbols.specs.Wanted.{Given, sections_in, kept_objects}
 use Rattle.layout.specs.Sections.{is_read_only, is_writable, is_zero, extent}
 use Rattle.layout.specs.Addresses.{address_of}
-use Rattle.relocs.specs.Places.{sections_of}
 use Rattle.lift_blocks.specs.Listed.{Lifted}
 use Rattle.jump_table.specs.Assembly.{start_of}
 use Rattle.lower.specs.Lowering.{lowered_blocks}
@@ -46,26 +46,21 @@ section_line is_of given o s None = []
 section_line is_of given o s (Some section) =
     if is_of section.kind && nat_lt 0 (extent section) then line_at (address_of given o s) (extent section) o s else []
 
--- what stands at 0, 1, .. below n, one behind the other
-unfoldable pub joined_below : ℕ → (ℕ → List ℕ) → List ℕ
-joined_below zero at = []
-joined_below (suc n) at = joined_below n at ++ at n
-
 -- the lines of an object's sections of a kind, and of those of all objects
 abbrev pub object_lines : (SectionKind → Bool) → Given → ℕ → List ℕ
 object_lines is_of given o =
-    let sections = sections_of (slice_get given.objects o) in
-    joined_below (length sections) (λ s. section_line is_of given o s (slice_get sections s))
+    let sections = sections_in given o in
+    texts_below (length sections) (λ s. section_line is_of given o s (slice_get sections s))
 
 abbrev pub lines_of : (SectionKind → Bool) → Given → List ℕ
-lines_of is_of given = joined_below (length given.objects) (object_lines is_of given)
+lines_of is_of given = texts_below (length (kept_objects given)) (object_lines is_of given)
 
 -- the lines of all data, which stand in the order of their addresses
 abbrev pub data_lines : Given → List ℕ
 data_lines given = lines_of is_read_only given ++ lines_of is_writable given ++ lines_of is_zero given
 
 -- the map: the lines of the wanted entries, and those of the data
-abbrev pub map_text : Given → Lifted → List ℕ
-map_text given lifted =
+abbrev pub map_text : Given → List ℕ → Lifted → List ℕ
+map_text given lengths lifted =
     let list = lowered_blocks lifted in
-    entry_lines 0 given.wanted.entries (map (start_of list) list.entries) ++ data_lines given
+    entry_lines 0 given.wanted.entries (map (start_of lengths list) list.entries) ++ data_lines given

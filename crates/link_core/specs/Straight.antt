@@ -7,13 +7,14 @@ use Rattle.rv_decode.specs.declared.ops.RvOp.{RvOp}
 use Rattle.rv_decode.specs.declared.ops.RvOp.TheVariants as rv
 use Rattle.runs.specs.Joined.{joined}
 use Rattle.runs.specs.Pieces.{lowered}
-use Rattle.symbols.specs.Wanted.{Given}
-use Rattle.relocs.specs.Places.{CodePlace, Code, Stub, Nowhere, object_places, objects_places, code_at, sections_of}
-use Rattle.relocs.specs.Words.{raw_at}
+use Rattle.symbols.specs.Wanted.{Given, sections_in}
+use Rattle.relocs.specs.Places.{CodePlace, Code, Stub, Nowhere, object_places, objects_places, code_at}
+use Rattle.link_core.specs.Supported.{linked_at}
 use Rattle.lift_blocks.specs.Operations.{Operation, Plain, Jalr}
 use Rattle.lift_blocks.specs.Listed.{Lifted, entry_places, can_go_on, is_emitted, code_places, starts}
 use Rattle.pvm_ops.specs.declared.instr.Instr.{Instr}
-use Rattle.jump_table.specs.Assembly.{spelled, entry_len, jump, offset}
+use Rattle.jump_table.specs.Assembly.{entry_len, jump, offset}
+use Rattle.link_core.specs.Assembling.{spelled}
 use Rattle.lower.specs.Lowering.{lower_op}
 use Rattle.lower.specs.Plain.{IsLowerable}
 use Rattle.rv_decode.specs.Operations.{IsSigned}
@@ -32,13 +33,17 @@ straight None = Plain rv.Trap
 straight (Some (rv.Jalr rd rs1 imm)) = Jalr rd rs1 imm 0
 straight (Some op) = Plain op
 
+-- whether the machine goes on after it
+abbrev pub goes_on : Option RvOp → Bool
+goes_on x = can_go_on (straight x)
+
 -- the operations at places
 abbrev pub ops_at : Given → List CodePlace → List (Operation ℕ)
-ops_at given ps = map (λ p. straight (raw_at given p)) ps
+ops_at given ps = map (λ p. straight (linked_at given p)) ps
 
 -- their instructions
 abbrev pub instrs_at : Given → List CodePlace → List Instr
-instrs_at given ps = lowered lower_op (ops_at given ps)
+instrs_at given ps = lowered (lower_op []) (ops_at given ps)
 
 -- how many bytes instructions take
 abbrev pub size : List Instr → ℕ
@@ -92,7 +97,7 @@ straight_instrs given = jumps_to 0 (entry_positions given) ++ instrs_at given (c
 -- whether the machine goes on from the word before the k-th of a section
 abbrev pub goes_on_before : Given → ℕ → ℕ → ℕ → Bool
 goes_on_before given o s zero = false
-goes_on_before given o s (suc k) = can_go_on (raw_at given (Code o s (4 * k)))
+goes_on_before given o s (suc k) = goes_on (linked_at given (Code o s (4 * k)))
 
 abbrev pub only_if : Bool → CodePlace → List CodePlace
 only_if true p = p ∷ []
@@ -108,7 +113,7 @@ pub record IsStartOf (given : Given) (p : CodePlace) : Type 0 where
 
 -- where the instructions of each section of an object begin, and a table with such a row for each object
 abbrev pub row_of : Given → ℕ → List ℕ
-row_of given o = map (start_at given o) (range_with_len 0 (length (sections_of (slice_get given.objects o))))
+row_of given o = map (start_at given o) (range_with_len 0 (length (sections_in given o)))
 
 abbrev pub IsStartTable : Given → List (List ℕ) → Type 0
 IsStartTable given rows = (o : ℕ) → o < length given.objects → slice_get rows o ≡ Some (row_of given o)

@@ -1,21 +1,21 @@
--- What objects and wanted names may have that isn't linked so far, each at its place: relocations, words, and entries that
--- aren't at the start of a section. It is refused with code 63, the least place first.
+-- The first place with something that is not supported yet, as the code finds it: `Unsupported` says what that is.
 use Rattle.std.specs.Prelude.{ℕ, zero, suc, ◌+◌, ◌*◌, ◌/◌, List, length, Bool, false, not, ◌&&◌, ◌||◌, ◌==◌, nat_eq, nat_le, nat_lt, if◌then◌else◌, Option, Some, None, Result, Ok, Err, slice_get}
 use Rattle.std.specs.Option.{option_map}
 use Rattle.faults.specs.First.{where_true, first_below, least_below}
 use Rattle.elf_objects.specs.declared.fault.Fault.{Fault}
 use Rattle.elf_objects.specs.declared.fault.TheConstants.{NOT_BUILT}
 use Rattle.elf_objects.specs.declared.parts.Relocation.{Relocation}
-use Rattle.elf_objects.specs.Objects.{Section}
+use Rattle.elf_objects.specs.Objects.{Section, is_loaded_kind}
 use Rattle.rv_decode.specs.declared.ops.RvOp.{RvOp}
 use Rattle.rv_decode.specs.declared.ops.WordFault.{WordFault}
 use Rattle.rv_decode.specs.Operations.{operation}
-use Rattle.symbols.specs.Wanted.{Given}
-use Rattle.relocs.specs.Places.{CodePlace, Code, Stub, Nowhere, sections_of}
+use Rattle.symbols.specs.Wanted.{Given, sections_in, kept_objects}
+use Rattle.relocs.specs.Places.{CodePlace, Code, Stub, Nowhere}
 use Rattle.layout.specs.Sections.{is_code}
-use Rattle.relocs.specs.Words.{is_linked, word_at}
+use Rattle.relocs.specs.Words.{word_at}
+use Rattle.link_core.specs.Supported.{is_linked}
 use Rattle.lift_blocks.specs.Listed.{entry_places}
-use Rattle.symbols.specs.Faults.{is_loaded, has_effect}
+use Rattle.symbols.specs.Faults.{has_effect}
 
 -- the lesser of two offsets
 abbrev pub lesser : Option ℕ → Option ℕ → Option ℕ
@@ -59,7 +59,7 @@ word_offset bytes =
 -- the least offset of a section at which something isn't built, where the section is loaded
 abbrev pub section_offset : Section → Option ℕ
 section_offset section =
-    lesser (if is_loaded section.kind then relocation_offset section else None)
+    lesser (if is_loaded_kind section.kind then relocation_offset section else None)
     (if is_code section.kind then word_offset section.content else None)
 
 abbrev pub unbuilt : ℕ → ℕ → ℕ → Fault
@@ -72,11 +72,11 @@ section_unbuilt o s (Some section) = option_map (unbuilt o s) (section_offset se
 -- the first of an object's sections, and of all objects
 abbrev pub object_unbuilt : Given → ℕ → Option Fault
 object_unbuilt given o =
-    let sections = sections_of (slice_get given.objects o) in
+    let sections = sections_in given o in
     first_below (length sections) (λ s. section_unbuilt o s (slice_get sections s))
 
 abbrev pub sections_unbuilt : Given → Option Fault
-sections_unbuilt given = first_below (length given.objects) (object_unbuilt given)
+sections_unbuilt given = first_below (length (kept_objects given)) (object_unbuilt given)
 
 -- an entry that isn't at the start of its section
 abbrev pub entry_unbuilt : Option CodePlace → Option Fault

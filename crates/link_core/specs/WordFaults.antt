@@ -1,5 +1,5 @@
--- The faults of words: a word without an operation is refused with the code of its fault.
-use Rattle.std.specs.Prelude.{ℕ, ◌+◌, ◌*◌, List, length, nat_le, if◌then◌else◌, Option, Some, None, Result, Ok, Err, slice_get}
+-- The first fault of words, as the code finds it: `CodeFaults` lists them all.
+use Rattle.std.specs.Prelude.{ℕ, ◌+◌, ◌*◌, List, length, nat_le, if◌then◌else◌, Option, Some, None, Result, Ok, Err}
 use Rattle.std.specs.Option.{option_map}
 use Rattle.faults.specs.First.{first_below}
 use Rattle.elf_objects.specs.declared.fault.Fault.{Fault}
@@ -7,17 +7,18 @@ use Rattle.rv_decode.specs.declared.ops.RvOp.{RvOp}
 use Rattle.rv_decode.specs.declared.ops.WordFault.{WordFault}
 use Rattle.rv_decode.specs.declared.ops.WordFault.TheVariants.{BadWord, BadRegister, Ecall, LoadToZero}
 use Rattle.rv_decode.specs.Operations.{operation}
-use Rattle.symbols.specs.Wanted.{Given}
-use Rattle.relocs.specs.Places.{code_at, sections_of}
+use Rattle.symbols.specs.Wanted.{Given, sections_in, kept_objects}
+use Rattle.relocs.specs.Places.{code_at}
 use Rattle.relocs.specs.Words.{word_at}
 use Rattle.link_core.specs.Unbuilt.{word_count}
+use Rattle.link_core.specs.declared.words.TheConstants.{BAD_WORD, BAD_REGISTER, ECALL, LOAD_TO_ZERO}
 
 -- the code of a fault
 abbrev pub code_of : WordFault → ℕ
-code_of BadWord = 20
-code_of BadRegister = 21
-code_of Ecall = 22
-code_of LoadToZero = 23
+code_of BadWord = BAD_WORD
+code_of BadRegister = BAD_REGISTER
+code_of Ecall = ECALL
+code_of LoadToZero = LOAD_TO_ZERO
 
 abbrev pub fault_of : Result RvOp WordFault → Option ℕ
 fault_of (Ok op) = None
@@ -26,7 +27,7 @@ fault_of (Err fault) = Some (code_of fault)
 -- the code of the fault of the word at an offset: where too few bytes are left, it is that of a word that is none
 unfoldable pub word_fault : List ℕ → ℕ → Option ℕ
 word_fault bytes offset =
-    if nat_le (offset + 4) (length bytes) then fault_of (operation (word_at bytes offset)) else Some 20
+    if nat_le (offset + 4) (length bytes) then fault_of (operation (word_at bytes offset)) else Some BAD_WORD
 
 abbrev pub fault_at : ℕ → ℕ → ℕ → ℕ → Fault
 fault_at o s offset code = record { code = code; object = o; section = s; offset = offset }
@@ -40,7 +41,7 @@ section_fault o s (Some bytes) =
 -- the first of an object, and of all
 abbrev pub object_word_fault : Given → ℕ → Option Fault
 object_word_fault given o =
-    first_below (length (sections_of (slice_get given.objects o))) (λ s. section_fault o s (code_at given o s))
+    first_below (length (sections_in given o)) (λ s. section_fault o s (code_at given o s))
 
 abbrev pub first_word_fault : Given → Option Fault
-first_word_fault given = first_below (length given.objects) (object_word_fault given)
+first_word_fault given = first_below (length (kept_objects given)) (object_word_fault given)

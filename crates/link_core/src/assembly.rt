@@ -1,6 +1,7 @@
 ghost use Rattle.std.specs.Prelude.{◌≡◌, ◌≤◌, ◌<◌, ◌^◌, ◌∷◌, [], ◌++◌, length, OnOk, IfOk};
 ghost use Rattle.pvm_ops.specs.Listing.{packed, number_of_bits};
-ghost use Rattle.link_core.specs.Assembling.{empty, append, IsPlaceable};
+ghost use Rattle.jump_table.specs.Laws.{IsPlaceable};
+ghost use Rattle.link_core.specs.Assembling.{empty, append};
 
 use pvm_ops::{Bytes8, Instr, encode_into};
 use std::alloc::{AllocError, Global};

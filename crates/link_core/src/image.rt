@@ -2,7 +2,7 @@
 
 ghost use Rattle.std.specs.Prelude.{◌≡◌, ◌≢◌, ◌+◌, ◌<◌, ◌^◌, [], length, take, slice_get, IfOk, OnOk, IsSomeAnd};
 ghost use Rattle.layout.specs.Addresses.{end_of_objects, end_before};
-ghost use Rattle.relocs.specs.Places.{sections_of};
+ghost use Rattle.symbols.specs.Parts.{sections_of};
 ghost use Rattle.relocs.specs.Images.{with_section, with_sections, with_objects};
 ghost use Rattle.link_core.specs.DataParts.{holds, start_of};
 

@@ -8,9 +8,10 @@ ghost use Rattle.symbols.specs.Resolved.{IsResolved};
 ghost use Rattle.symbols.specs.Faults.{symbol_faults};
 ghost use Rattle.symbols.specs.Parts.{object_at};
 ghost use Rattle.layout.specs.Addresses.{address_of, read_only_len, zero_pages};
-ghost use Rattle.layout.specs.Faults.{layout_fault};
+ghost use Rattle.layout.specs.Faults.{layout_faults};
 ghost use Rattle.layout.specs.Placed.{IsPlaced};
-ghost use Rattle.relocs.specs.Places.{Code, code_at, sections_of};
+ghost use Rattle.relocs.specs.Places.{Code, code_at};
+ghost use Rattle.symbols.specs.Parts.{sections_of};
 ghost use Rattle.lift_blocks.specs.Listed.{entry_places};
 ghost use Rattle.std.specs.List.{AllByRecursion};
 ghost use Rattle.link_core.specs.DataParts.{start_of};
@@ -184,7 +185,7 @@ impl<'a> Input<'a> {
 
     /// The data and the stack fit a container. It does nothing.
     pub(crate) fn fits(&self)
-        ensures laid_out { layout_fault self.now ≡ None }
+        ensures laid_out { layout_faults self.now ≡ [] }
         ensures stack { self.now.wanted.stack < 2 ^ 24 }
     {
         let _stack = self.wanted.stack();

@@ -23,18 +23,20 @@ mod words;
 
 pub use bundle::Bundle;
 use jump_table::code_is_placed;
-use lift_blocks::source_lock;
+use lift_blocks::{bounds_stay, source_lock};
 pub use link_fault::LinkFault;
-pub use linker::{CODE_BYTES_TOO_LARGE, Linked, link};
+pub use linker::{CODE_BYTES_TOO_LARGE, Linked, first_fault_is_one, link};
 use lower::blocks_are_carried_out;
 use machine_state::start_is_good;
 use pvm_machine::effects_keep_targets;
+pub use words::{BAD_REGISTER, BAD_WORD, ECALL, LOAD_TO_ZERO};
 
 /// A program linked as `IsLinked` says agrees with its objects.
 pub fn linked_agrees()
     ensures { LinkedAgrees }
 {
     source_lock();
+    bounds_stay();
     blocks_are_carried_out();
     code_is_placed();
     effects_keep_targets();

@@ -1,6 +1,7 @@
 //! From the files of objects to a container.
 
-ghost use Rattle.std.specs.Prelude.{◌≡◌, ◌≤◌, ◌<◌, ◌^◌, ◌+◌, ◌*◌, ◌++◌, ℕ, [], length, map, nat_lt, slice_get, Some, None, MatchResult, MatchOption, OnOk, OnErr, IfOk};
+ghost use Rattle.std.specs.Prelude.{◌≡◌, ◌≤◌, ◌<◌, ◌^◌, ◌+◌, ◌*◌, ◌++◌, ℕ, [], length, map, slice_get, Some, None, MatchResult, OnOk, OnErr, IfOk};
+ghost use Rattle.faults.specs.Present.{first_in};
 ghost use Rattle.std.specs.List.{filter_map, AllByRecursion};
 ghost use Rattle.std.specs.Io.KnownBytes.{Appends};
 ghost use Rattle.outside.specs.Outside.{AppendsFront, HasCause};
@@ -8,10 +9,11 @@ ghost use Rattle.blob_codec.specs.Grammar.{IsContainer, container_bytes};
 ghost use Rattle.elf_objects.specs.Reading.{object_of};
 ghost use Rattle.symbols.specs.Wanted.{Given};
 ghost use Rattle.lift_blocks.specs.Listed.{entry_places, code_places};
-ghost use Rattle.link_core.specs.Faults.{first_fault, object_faults, given_fault, given_of, code_fault, FailsWith};
+ghost use Rattle.link_core.specs.Faults.{object_faults, input_of, given_faults, HasNone, IsFirst, HasNoFault, HasFirstFault, FirstFaultIsOne, Refuses};
 ghost use Rattle.link_core.specs.Linked.{HoldsLinked};
 ghost use Rattle.link_core.specs.Assembling.{empty, append, container_with};
 ghost use Rattle.link_core.specs.Straight.{jumps_to, instrs_at, size, straight_instrs, IsStartOf, IsStartTable};
+ghost use Rattle.link_core.specs.CodeFaults.{code_faults};
 ghost use Rattle.link_core.specs.Unbuilt.{first_unbuilt};
 ghost use Rattle.link_core.specs.WordFaults.{first_word_fault};
 
@@ -84,6 +86,11 @@ impl Linked {
     }
 }
 
+/// A law of faults: a link has at most one first fault, and none where it has no fault. It does nothing.
+pub fn first_fault_is_one()
+    ensures { FirstFaultIsOne }
+{}
+
 /// Links the objects of a bundle, in its order, into the program that is wanted. So far objects are linked whose loaded
 /// sections have no relocation that changes something, and whose code is of operations on registers and immediates, `lui`,
 /// loads, stores, `fence`, traps and `ret`, with entries at the starts of sections.
@@ -94,8 +101,8 @@ impl Linked {
 /// large a program (32). And `Memory`.
 pub fn link(alloc: Global, bundle: &Bundle, wanted: &Wanted) -> Result<Linked, LinkFault>
     ensures { MatchResult result
-        (λ linked. (first_fault bundle.now wanted.now ≡ None) × HoldsLinked (given_of bundle.now wanted.now) linked)
-        (FailsWith (first_fault bundle.now wanted.now)) }
+        (λ linked. HasNoFault bundle.now wanted.now × HoldsLinked (input_of bundle.now wanted.now) linked)
+        (Refuses (HasFirstFault bundle.now wanted.now)) }
 {
     let objects = read_objects(alloc, bundle)?;
     link_objects(alloc, &objects, wanted)
@@ -104,8 +111,8 @@ pub fn link(alloc: Global, bundle: &Bundle, wanted: &Wanted) -> Result<Linked, L
 /// Reads the objects of a bundle.
 fn read_objects(alloc: Global, bundle: &Bundle) -> Result<Objects<'_>, LinkFault>
     ensures { MatchResult result
-        (λ objects. (object_faults bundle.now ≡ None) × (objects ≡ filter_map object_of bundle.now))
-        (FailsWith (object_faults bundle.now)) }
+        (λ objects. (object_faults bundle.now ≡ []) × (objects ≡ filter_map object_of bundle.now))
+        (Refuses (λ fault. first_in (object_faults bundle.now) ≡ Some fault)) }
 {
     let mut objects = Objects::new(alloc);
     for at in 0..bundle.len() {
@@ -117,8 +124,8 @@ fn read_objects(alloc: Global, bundle: &Bundle) -> Result<Objects<'_>, LinkFault
 /// Links objects.
 fn link_objects(alloc: Global, objects: &Objects<'_>, wanted: &Wanted) -> Result<Linked, LinkFault>
     ensures { let given : Given = record { objects = objects.now; wanted = wanted.now } in MatchResult result
-        (λ linked. (given_fault given ≡ None) × HoldsLinked given linked)
-        (FailsWith (given_fault given)) }
+        (λ linked. HasNone (given_faults given) given × HoldsLinked given linked)
+        (Refuses (IsFirst (given_faults given) given)) }
 {
     let resolved = resolve(alloc, objects, wanted)?;
     let placed = place_all(alloc, objects, &resolved, wanted.stack())?;
@@ -128,9 +135,10 @@ fn link_objects(alloc: Global, objects: &Objects<'_>, wanted: &Wanted) -> Result
 /// Links what has no fault in its symbols and its layout.
 fn link_input(alloc: Global, input: &Input<'_>) -> Result<Linked, LinkFault>
     ensures { MatchResult result
-        (λ linked. (code_fault input.now ≡ None) × HoldsLinked input.now linked)
-        (FailsWith (code_fault input.now)) }
+        (λ linked. HasNone (code_faults input.now) input.now × HoldsLinked input.now linked)
+        (Refuses (IsFirst (code_faults input.now) input.now)) }
 {
+    blocks_are_carried_out();
     if let Some(fault) = first_word_fault(input) {
         return Err(LinkFault::Bad(fault));
     }

@@ -2,15 +2,14 @@ ghost use Rattle.std.specs.Prelude.{◌≡◌, ◌<◌, ◌^◌, [], ◌∷◌, 
 ghost use Rattle.std.specs.List.{AllByRecursion};
 ghost use Rattle.numbers.specs.Words.{word_of};
 ghost use Rattle.rv_decode.specs.Operations.{IsSigned};
-ghost use Rattle.lift_blocks.specs.Listed.{can_go_on as goes_on};
 ghost use Rattle.pvm_ops.specs.Fetch.{trap as trap_of};
 ghost use Rattle.pvm_ops.specs.Spelling.{IsShort};
 ghost use Rattle.jump_table.specs.Assembly.{jump};
 ghost use Rattle.lower.specs.Instructions.{jump_ind as jump_ind_of};
 ghost use Rattle.lower.specs.Lowering.{lower_op};
 ghost use Rattle.lower.specs.Plain.{listed, IsLowerable};
-ghost use Rattle.link_core.specs.Straight.{straight};
-ghost use Rattle.link_core.specs.Assembling.{IsPlaceable};
+ghost use Rattle.link_core.specs.Straight.{straight, goes_on};
+ghost use Rattle.jump_table.specs.Laws.{IsPlaceable};
 ghost use Rattle.link_core.specs.Straight.{IsLinkedOp};
 
 use lower::{Three, lower_operation};
@@ -58,7 +57,7 @@ pub(crate) fn trap() -> Instr
 /// The instructions of an operation that is linked: those of its row, or the one of a return.
 pub(crate) fn lower(op: &RvOp) -> Three
     requires { IsLinkedOp op.now }
-    ensures value { listed result ≡ lower_op (straight (Some op.now)) }
+    ensures value { listed result ≡ lower_op [] (straight (Some op.now)) }
     ensures fits { AllByRecursion IsPlaceable (listed result) }
 {
     match *op {
@@ -74,7 +73,7 @@ pub(crate) fn lower(op: &RvOp) -> Three
 /// The instructions of an operation's row.
 fn lower_alone(op: &RvOp) -> Three
     requires { IsLowerable op.now }
-    ensures value { listed result ≡ lower_op (straight (Some op.now)) }
+    ensures value { listed result ≡ lower_op [] (straight (Some op.now)) }
     ensures fits { AllByRecursion IsPlaceable (listed result) }
 {
     lower_operation(op)
@@ -119,9 +118,9 @@ fn immediate(imm: i32) -> u64
     i64::from(imm).cast_unsigned()
 }
 
-/// Whether the place after the operation can be reached from it.
+/// Whether the machine goes on to the place after an operation that is linked.
 pub(crate) fn can_go_on(op: &RvOp) -> bool
     ensures { result ≡ goes_on (Some op.now) }
 {
-    !matches!(op, RvOp::Jal { .. } | RvOp::Jalr { .. } | RvOp::Trap)
+    !matches!(op, RvOp::Jalr { .. } | RvOp::Trap)
 }

@@ -1,7 +1,7 @@
 ghost use Rattle.std.specs.Prelude.{◌≡◌, ◌+◌, ◌<◌, ◌≤◌, ◌^◌, ◌++◌, ◌∷◌, [], length, map, codes, slice_get, OnOk, IfOk};
 ghost use Rattle.std.specs.Char.{digit_char};
 ghost use Rattle.disasm.specs.Digits.{hex_digits};
-ghost use Rattle.relocs.specs.Places.{sections_of};
+ghost use Rattle.symbols.specs.Parts.{sections_of};
 ghost use Rattle.link_core.specs.DataParts.{holds};
 ghost use Rattle.link_core.specs.MapText.{entry_line, entry_lines, section_name, range_text, data_line, section_line, object_lines, lines_of, data_lines};
 

@@ -2,10 +2,12 @@
 
 ghost use Rattle.std.specs.Prelude.{◌≡◌, ◌+◌, ◌*◌, ◌/◌, ◌%◌, ◌<◌, ◌≤◌, ◌^◌, ◌∷◌, [], length, map, slice_get, Some, None, OnOk, IfOk, true, if◌then◌else◌};
 ghost use Rattle.std.specs.List.{filter, AllByRecursion};
-ghost use Rattle.relocs.specs.Places.{Code, code_at, places_from, section_places, objects_places, sections_of, has};
+ghost use Rattle.relocs.specs.Places.{Code, code_at, places_from, section_places, objects_places, has};
+ghost use Rattle.symbols.specs.Parts.{sections_of};
 ghost use Rattle.lift_blocks.specs.Listed.{entry_places, is_emitted, code_places};
 ghost use Rattle.lower.specs.Lowering.{lower_op};
-ghost use Rattle.link_core.specs.Assembling.{empty, append, IsPlaceable};
+ghost use Rattle.jump_table.specs.Laws.{IsPlaceable};
+ghost use Rattle.link_core.specs.Assembling.{empty, append};
 ghost use Rattle.link_core.specs.Straight.{straight, instrs_at, entry_positions as positions_of, straight_instrs, size, row_of, goes_on_before};
 ghost use Rattle.link_core.specs.Straight.{IsStartOf, IsStartTable, IsLinkedOp};
 ghost use Rattle.link_core.specs.Unbuilt.{first_unbuilt};
@@ -79,7 +81,7 @@ fn place_section(
     requires built { first_unbuilt input.now ≡ None }
     requires words { first_word_fault input.now ≡ None }
     requires starts { AllByRecursion (IsStartOf input.now) (entry_places input.now) }
-    ensures { OnOk result (code.new ≡ append code.old (instrs_at input.now (filter (is_emitted input.now) (section_places object section (code_at input.now object section))))) }
+    ensures { OnOk result (code.new ≡ append code.old (instrs_at input.now (filter (is_emitted input.now) (section_places input.now object section (code_at input.now object section))))) }
 {
     match input.text(object, section) {
         Some(text) => place_text(input, object, section, text, code),
@@ -99,7 +101,7 @@ fn place_text(
     requires built { first_unbuilt input.now ≡ None }
     requires words { first_word_fault input.now ≡ None }
     requires starts { AllByRecursion (IsStartOf input.now) (entry_places input.now) }
-    ensures { OnOk result (code.new ≡ append code.old (instrs_at input.now (filter (is_emitted input.now) (section_places object section (Some text.now))))) }
+    ensures { OnOk result (code.new ≡ append code.old (instrs_at input.now (filter (is_emitted input.now) (section_places input.now object section (Some text.now))))) }
 {
     let goes_on = place_words(input, object, section, text, code)?;
     let reached = goes_on || is_bare_entry(input, object, section, text);
@@ -125,7 +127,7 @@ fn place_words(
     code: &mut Assembly,
 ) -> Result<bool, AllocError>
     requires text { code_at input.now object section ≡ Some text.now }
-    ensures code { OnOk result (code.new ≡ append code.old (instrs_at input.now (places_from object section 0 (length text.now / 4)))) }
+    ensures code { OnOk result (code.new ≡ append code.old (instrs_at input.now (places_from input.now object section 0 (length text.now / 4)))) }
     ensures goes_on { IfOk result (λ goes_on. goes_on ≡ goes_on_before input.now object section (length text.now / 4)) }
 {
     let _ = input;
@@ -141,7 +143,7 @@ fn place_words(
 /// Places the instructions of an operation.
 fn place_operation(op: &RvOp, code: &mut Assembly) -> Result<(), AllocError>
     requires { IsLinkedOp op.now }
-    ensures { OnOk result (code.new ≡ append code.old (lower_op (straight (Some op.now)))) }
+    ensures { OnOk result (code.new ≡ append code.old (lower_op [] (straight (Some op.now)))) }
 {
     let three = lower(op);
     place_if(three.count > 0, &three.first, code)?;

@@ -15,3 +15,9 @@ fn keeps_files_apart_in_a_bundle(rt: HostRuntime) -> Result<(), Fail> {
     assert_eq!(rt; bundle.part(2), b"three".as_slice());
     Ok(())
 }
+
+/// The law speaks of lists of files, of which a link at hand shows nothing more: the test shows that it can be called.
+#[test]
+fn the_law_of_one_first_fault_is_there() {
+    first_fault_is_one();
+}

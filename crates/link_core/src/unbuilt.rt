@@ -1,13 +1,12 @@
 //! What isn't linked so far, each at its place.
 
 ghost use Rattle.std.specs.Prelude.{◌≡◌, ◌<◌, ◌*◌, ◌+◌, ◌/◌, length, slice_get, Some, None, IsSomeAnd};
-ghost use Rattle.relocs.specs.Places.{sections_of};
+ghost use Rattle.symbols.specs.Parts.{sections_of};
 ghost use Rattle.layout.specs.Sections.{is_code};
 ghost use Rattle.lift_blocks.specs.Listed.{entry_places};
 ghost use Rattle.link_core.specs.Unbuilt.{lesser, effect_offset, relocation_offset, word_count, word_offset, section_offset};
 ghost use Rattle.link_core.specs.Unbuilt.{unbuilt, section_unbuilt, object_unbuilt, sections_unbuilt, entry_unbuilt, stands_before};
 ghost use Rattle.link_core.specs.Unbuilt.{earlier, entries_unbuilt, first_unbuilt};
-ghost use Rattle.symbols.specs.Faults.{is_loaded};
 ghost use Rattle.link_core.specs.Sites.{code_place};
 
 use crate::input::{Input, Site};
@@ -77,7 +76,7 @@ fn section_offset(input: &Input<'_>, object: u32, section: u32) -> Option<u64>
     ensures { IsSomeAnd (slice_get (sections_of (slice_get input.now.objects object)) section) (λ s. result ≡ section_offset s) }
 {
     let lent = input.section(object, section);
-    let relocation = if is_loaded(lent.kind) {
+    let relocation = if lent.kind.is_loaded() {
         relocation_offset(input, object, section)
     } else {
         None
@@ -88,13 +87,6 @@ fn section_offset(input: &Input<'_>, object: u32, section: u32) -> Option<u64>
         None
     };
     lesser(relocation, word)
-}
-
-/// Whether a section of this kind takes part in the program.
-fn is_loaded(kind: SectionKind) -> bool
-    ensures { result ≡ is_loaded kind }
-{
-    !matches!(kind, SectionKind::Unloaded)
 }
 
 fn is_code(kind: SectionKind) -> bool

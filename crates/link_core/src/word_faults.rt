@@ -2,7 +2,6 @@
 
 ghost use Rattle.std.specs.Prelude.{◌≡◌, ◌<◌, length, slice_get, Some};
 ghost use Rattle.std.specs.Option.{option_copied};
-ghost use Rattle.relocs.specs.Places.{sections_of};
 ghost use Rattle.link_core.specs.WordFaults.{fault_at, section_fault, object_word_fault, first_word_fault};
 
 use crate::input::Input;

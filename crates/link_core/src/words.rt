@@ -2,18 +2,31 @@
 
 ghost use Rattle.std.specs.Prelude.{◌≡◌, ◌+◌, ◌<◌, ◌≤◌, length, IfSome, IfOk, MatchOption};
 ghost use Rattle.rv_decode.specs.Operations.{IsOp};
-ghost use Rattle.relocs.specs.Words.{standing as stands, linked, decoded, word_at, is_linked};
+ghost use Rattle.relocs.specs.Words.{standing as stands, decoded, word_at};
+ghost use Rattle.link_core.specs.Supported.{is_linked, linked_only};
 ghost use Rattle.link_core.specs.Straight.{IsLinkedOp};
 ghost use Rattle.link_core.specs.Unbuilt.{has_unlinked};
 ghost use Rattle.link_core.specs.WordFaults.{code_of, word_fault};
 
 use rv_decode::{Reg, RvOp, WordFault, decode};
 
-/// What stands at an offset of a text: the operation of the word that begins there, a trap at the end, and nothing where
-/// the word has no operation that is linked.
-#[tactic(auto, unfolding(relocs::specs::Words::standing, relocs::specs::Words::linked_operation))]
+/// The code of a word that is no instruction of RV64EM, or of which the section has fewer than four bytes.
+pub const BAD_WORD: u8 = 20;
+
+/// The code of a word with a register that RV64E hasn't, or that is reserved.
+pub const BAD_REGISTER: u8 = 21;
+
+/// The code of `ecall`.
+pub const ECALL: u8 = 22;
+
+/// The code of a load into x0.
+pub const LOAD_TO_ZERO: u8 = 23;
+
+/// The operation at an offset of a text: that of the word that begins there, a trap at the end, and none where the word
+/// has no operation that is linked.
+#[tactic(auto, unfolding(relocs::specs::Words::standing))]
 pub(crate) fn standing(text: &[u8], offset: usize) -> Option<RvOp>
-    ensures value { result ≡ stands text.now offset }
+    ensures value { result ≡ linked_only (stands text.now offset) }
     ensures ranges { IfSome result IsLinkedOp }
 {
     if offset == text.len() {
@@ -55,10 +68,10 @@ fn code_of(fault: WordFault) -> u8
     ensures { result ≡ code_of fault }
 {
     match fault {
-        WordFault::BadWord => 20,
-        WordFault::BadRegister => 21,
-        WordFault::Ecall => 22,
-        WordFault::LoadToZero => 23,
+        WordFault::BadWord => BAD_WORD,
+        WordFault::BadRegister => BAD_REGISTER,
+        WordFault::Ecall => ECALL,
+        WordFault::LoadToZero => LOAD_TO_ZERO,
     }
 }
 
@@ -75,7 +88,7 @@ fn word(text: &[u8], offset: usize) -> Option<u32>
 /// The operation of a word, where it is linked so far.
 fn linked(found: Result<RvOp, WordFault>) -> Option<RvOp>
     requires { IfOk found IsOp }
-    ensures value { result ≡ decoded (linked found) }
+    ensures value { result ≡ linked_only (decoded found) }
     ensures ranges { IfSome result IsLinkedOp }
 {
     match found {

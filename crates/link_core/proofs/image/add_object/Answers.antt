@@ -1,9 +1,9 @@
 use Rattle.std.proofs.Common.{◌+◌, refl}
 use Rattle.std.specs.Prelude.{slice_get}
-use Rattle.relocs.specs.Places.{sections_of}
 use Rattle.link_core.specs.DataParts.{holds, start_of}
 use Rattle.link_core.proofs.Images.{no_sections, before_section, section_more}
 use Rattle.link_core.proofs.image.add_object.Goals as goal
+use Rattle.symbols.specs.Parts.{sections_of}
 
 pub loop-section-init : goal.loop-section-init
 loop-section-init c = no_sections (holds c.args.part) (start_of c.args.input.now c.args.part) c.args.bytes.now.items

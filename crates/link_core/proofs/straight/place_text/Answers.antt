@@ -5,6 +5,7 @@ use Rattle.lift_blocks.specs.Listed.{entry_places}
 use Rattle.link_core.specs.Straight.{goes_on_before}
 use Rattle.link_core.specs.Assembling.{append}
 use Rattle.link_core.proofs.PlacedOps.{if_wanted}
+use Rattle.link_core.proofs.StraightBuilt.{all_built}
 use Rattle.link_core.proofs.PlacedWords.{text_placed, reached_by_word, reached_by_entry}
 use Rattle.link_core.proofs.PlacedSections.{section_is_whole}
 use Rattle.link_core.proofs.straight.place_text.Goals as goal
@@ -25,4 +26,4 @@ returns c =
       | else-goes_on w ↦ reached_by_entry _ c.in_ok-goes_on.goes_on _ _ (w.reached-is ∙ w.is_bare_entry-reached.ensures) w.if-goes_on.false c.in_ok-goes_on.ensures.goes_on
     ] in
     let placed = c.in_ok-place_if.ensures ∙ ap (λ i. append c.place_words.new.code (if_wanted c.if-goes_on.reached i)) c.trap.ensures.value in
-    text_placed given c.args.object c.args.section text c.requires.text c.args.code.now c.place_words.new.code _ c.if-goes_on.reached whole.whole c.in_ok-goes_on.ensures.code reached placed
+    text_placed given c.args.object c.args.section text c.requires.text (all_built given c.requires.built c.requires.words) c.args.code.now c.place_words.new.code _ c.if-goes_on.reached whole.whole c.in_ok-goes_on.ensures.code reached placed

@@ -6,5 +6,5 @@ use Rattle.link_core.proofs.straight.place_words.Given as goal
 
 abbrev pub invariant-loop-at : goal.invariant-loop-at
 invariant-loop-at l =
-    (l.code ≡ append l.initial.code (instrs_at l.input (places_from l.object l.section 0 l.at)))
+    (l.code ≡ append l.initial.code (instrs_at l.input (places_from l.input l.object l.section 0 l.at)))
     × (l.goes_on ≡ goes_on_before l.input l.object l.section l.at)

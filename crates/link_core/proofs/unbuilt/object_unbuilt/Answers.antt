@@ -1,9 +1,9 @@
 use Rattle.std.proofs.Common.{arith, length}
 use Rattle.std.specs.Prelude.{slice_get}
 use Rattle.faults.proofs.Firsts.{found_first}
-use Rattle.relocs.specs.Places.{sections_of}
 use Rattle.link_core.specs.Unbuilt.{section_unbuilt}
 use Rattle.link_core.proofs.unbuilt.object_unbuilt.Goals as goal
+use Rattle.symbols.specs.Parts.{sections_of}
 
 pub returns-in-Some : goal.returns-in-Some
 returns-in-Some c =

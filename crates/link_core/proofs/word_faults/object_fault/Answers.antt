@@ -1,9 +1,10 @@
 use Rattle.std.proofs.Common.{ap, ◌∙◌, arith, length}
 use Rattle.std.specs.Prelude.{slice_get}
 use Rattle.faults.proofs.Firsts.{found_first}
-use Rattle.relocs.specs.Places.{code_at, sections_of}
+use Rattle.relocs.specs.Places.{code_at}
 use Rattle.link_core.specs.WordFaults.{section_fault}
 use Rattle.link_core.proofs.word_faults.object_fault.Goals as goal
+use Rattle.symbols.specs.Parts.{sections_of}
 
 pub returns-in-Some : goal.returns-in-Some
 returns-in-Some c =

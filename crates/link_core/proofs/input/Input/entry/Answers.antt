@@ -1,5 +1,10 @@
-use Rattle.link_core.proofs.EntryPlaces.{no_other, entry_is}
+use Rattle.link_core.proofs.EntryPlaces.{entry_kept, no_other, entry_is}
 use Rattle.link_core.proofs.input.Input.entry.Goals as goal
+
+pub entry-requires : goal.entry-requires
+entry-requires c =
+    let lt = rw (← c.self.view_is) at c.requires in
+    entry_kept _ _ c.args.at c.self.invariant.input lt
 
 pub returns-in_default : goal.returns-in_default
 returns-in_default c =
