@@ -1,5 +1,5 @@
 -- What reads, writes and puts make of a command.
-use Rattle.std.proofs.Common.{◌≡◌, ℕ, zero, suc, ◌+◌, ◌-◌, ◌<◌, List, [], ◌∷◌, length, Option, Some, None, Ok, Err, refl, ap, ◌∙◌, subst, inr, arith}
+use Rattle.std.proofs.Common.{◌≡◌, ℕ, zero, suc, ◌+◌, ◌-◌, ◌<◌, List, [], ◌∷◌, length, Option, Some, None, Err, refl, ap, ◌∙◌, subst, inr, arith}
 use Rattle.outside.specs.Outside.{Files, AnswersRead}
 use Rattle.outside.specs.declared.folder.ReadFault.{ReadFault}
 use Rattle.outside.specs.declared.folder.ReadFault.TheVariants.{TooLarge}
@@ -13,11 +13,10 @@ use Rattle.pvm_machine.specs.declared.answers.Exit.{Exit}
 use Rattle.pvm_machine.specs.declared.answers.Exit.TheVariants as exit
 use Rattle.polkatool_cmd.specs.declared.answer.Answer.{Answer}
 use Rattle.polkatool_cmd.specs.declared.answer.Answer.TheVariants as answers
-use Rattle.polkatool_cmd.specs.Commands.{RunCommand}
-use Rattle.polkatool_cmd.specs.Faults.{too_large}
+use Rattle.polkatool_cmd.specs.RunWords.{RunCommand}
 use Rattle.polkatool_cmd.specs.Answers.{HoldsRun, RunComesTo}
-use Rattle.polkatool_cmd.specs.World.{World, Holds, HasFault}
-use Rattle.polkatool_cmd.specs.Running.{Tells, end_of}
+use Rattle.polkatool_cmd.specs.Snapshot.{Snapshot, Holds}
+use Rattle.polkatool_cmd.specs.Running.{Tells, end_of_exit}
 
 long_file : (n : ℕ) → (file : List ℕ) × (length file ≡ n)
 long_file zero = ([], refl)
@@ -34,24 +33,9 @@ long-read (Some files) name limit fault is answer =
     let P : ReadFault → Type 0 = λ f. AnswersRead (Some files) name limit (Err f) in
     subst P is answer
 
--- it has the fault of such files
-pub HasFault-too_large :
-    (first_of : List ℕ → Option Fault) (limit : ℕ)
-    → ((file : List ℕ) → limit < length file → first_of file ≡ Some too_large)
-    → (files : Option Files) (name : List ℕ) (fault : ReadFault) → fault ≡ TooLarge
-    → AnswersRead files name limit (Err fault) → HasFault first_of files name (Some too_large)
-HasFault-too_large first_of limit is_first files name fault is answer =
-    let long = long-read files name limit fault is answer in
-    record { file = long.0; held = long.1; first = is_first long.0 long.2 }
-
--- what a name is read to hold it holds
-pub held-read : (files : Option Files) (name : List ℕ) (limit : ℕ) (bytes : List ℕ) → AnswersRead files name limit (Ok bytes) → Holds files name bytes
-held-read None name limit bytes answer = tt
-held-read (Some files) name limit bytes answer = answer.0
-
 -- a run whose transcript was told on out, with nothing else changed, is what the run comes to
 pub RunComesTo-told :
-    (asked : RunCommand) (run : Paid Event End) (answer : Answer) (old new : World)
+    (asked : RunCommand) (run : Paid Event End) (answer : Answer) (old new : Snapshot)
     → HoldsRun old.files asked run
     → Tells run answer (record { text = old.out; puts = old.puts }) (record { text = new.out; puts = new.puts })
     → new ≡ record old { out = new.out; puts = new.puts }
@@ -91,7 +75,7 @@ RunComesTo-told asked run answers.FileFault old new holds told others =
 RunComesTo-told asked run answers.Memory old new holds told others = absurd told
 
 -- what a run came to, where its answer is one that is given so far
-pub run_of-exit : (old new : Machine) (e : Exit) → IsRun old new (last_answer e) → IsGivenSoFar (last_answer e) → run_of old ≡ record { events = []; end = end_of e new.state; left = new.gas; begun = old.gas - new.gas }
+pub run_of-exit : (old new : Machine) (e : Exit) → IsRun old new (last_answer e) → IsGivenSoFar (last_answer e) → run_of old ≡ record { events = []; end = end_of_exit e new.state; left = new.gas; begun = old.gas - new.gas }
 run_of-exit old new exit.Halt run given = run
 run_of-exit old new exit.Panic run given = run
 run_of-exit old new (exit.Fault address) run given = run

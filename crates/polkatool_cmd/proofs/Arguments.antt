@@ -1,5 +1,5 @@
 -- Words that spell an argument.
-use Rattle.std.proofs.Common.{◌≡◌, ℕ, ◌%◌, List, [], length, Bool, true, false, Option, Some, None, refl, sym, ap, ◌∙◌}
+use Rattle.std.proofs.Common.{◌≡◌, ℕ, ◌%◌, List, [], length, true, None, refl}
 use Rattle.std.specs.Prelude.{Result, Ok, Err}
 use Rattle.std.specs.List.{list_all}
 use Rattle.std.specs.Result.{result_ok}
@@ -7,14 +7,14 @@ use Rattle.std.proofs.lemmas.List.Sums.{AllPass-from_list_all, list_all-from_All
 use Rattle.hex.specs.Hex.{is_hex_digit, decode_of, decode_pairs}
 use Rattle.hex.specs.declared.error.FromHexError.{FromHexError}
 use Rattle.hex.proofs.HexLemmas.{decode_of-ok, decode_of-digits}
-use Rattle.polkatool_cmd.specs.Values.{argument_of, spelled, IsSpelled}
+use Rattle.polkatool_cmd.specs.Values.{argument_of, spelled_bytes, IsSpelled}
 
 -- a word without digits
 pub argument_of-nil : IsSpelled []
 unfolding decode_pairs
 argument_of-nil = refl
 
-pub spelled-nil : spelled [] ≡ []
+pub spelled-nil : spelled_bytes [] ≡ []
 unfolding decode_pairs
 spelled-nil = refl
 

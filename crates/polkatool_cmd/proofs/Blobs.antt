@@ -10,15 +10,15 @@ use Rattle.polkatool_cmd.specs.declared.answer.Answer.{Answer}
 use Rattle.polkatool_cmd.specs.declared.answer.Answer.TheVariants as answers
 use Rattle.polkatool_cmd.specs.Faults.{too_large}
 use Rattle.polkatool_cmd.specs.BlobFaults.{first_blob_fault}
-use Rattle.polkatool_cmd.specs.Commands.{RunCommand}
+use Rattle.polkatool_cmd.specs.RunWords.{RunCommand}
 use Rattle.polkatool_cmd.specs.RunFaults.{run_fault_in}
 use Rattle.polkatool_cmd.specs.Answers.{TextComesTo, RunComesTo}
-use Rattle.polkatool_cmd.specs.World.{World, HasFault}
-use Rattle.polkatool_cmd.specs.Blobs.{HoldsTooLarge, FailsToRead}
+use Rattle.polkatool_cmd.specs.Snapshot.{Snapshot, HasFault}
+use Rattle.polkatool_cmd.specs.Blobs.{HoldsTooLarge, FailsToReadBlob}
 use Rattle.polkatool_cmd.proofs.Answering.{long-read}
 
 -- a file that is too large has that fault
-pub first_blob_fault-long :
+first_blob_fault-long :
     (fault_in : Container → Option Fault) (file : List ℕ) → 2 ^ 27 < length file
     → first_blob_fault fault_in file ≡ Some too_large
 first_blob_fault-long fault_in file long = rw (lt-ltb (2 ^ 27) (length file) long) refl
@@ -37,13 +37,13 @@ HasFault-long :
 HasFault-long fault_in files name fault is long =
     record { file = long.file; held = long.held; first = first_blob_fault-long fault_in long.file long.len ∙ ap (λ f. Some f) (sym is) }
 
-unchanged : (old new : World) → new ≡ record old { reads = new.reads } → new.reads ≡ old.reads → new ≡ old
+unchanged : (old new : Snapshot) → new ≡ record old { reads = new.reads } → new.reads ≡ old.reads → new ≡ old
 unchanged old new others kept = others ∙ ap (λ reads. record old { reads = reads }) kept
 
 -- a run whose blob wasn't read
 pub RunComesTo-unread :
-    (asked : RunCommand) (answer : Answer) (old new : World)
-    → FailsToRead old.files asked.blob old.reads new.reads answer → new ≡ record old { reads = new.reads }
+    (asked : RunCommand) (answer : Answer) (old new : Snapshot)
+    → FailsToReadBlob old.files asked.blob old.reads new.reads answer → new ≡ record old { reads = new.reads }
     → RunComesTo asked answer old new
 RunComesTo-unread asked answers.Done old new fails others = absurd fails
 RunComesTo-unread asked answers.Panicked old new fails others = absurd fails
@@ -59,8 +59,8 @@ RunComesTo-unread asked answers.Memory old new fails others = unchanged old new 
 -- a command that puts a text, whose blob wasn't read
 pub TextComesTo-unread :
     (fault_in : Container → Option Fault) (text_of : Container → List ℕ) (blob : List ℕ) (answer : Answer)
-    (old new : World)
-    → FailsToRead old.files blob old.reads new.reads answer → new ≡ record old { reads = new.reads }
+    (old new : Snapshot)
+    → FailsToReadBlob old.files blob old.reads new.reads answer → new ≡ record old { reads = new.reads }
     → TextComesTo (first_blob_fault fault_in) text_of blob answer old new
 TextComesTo-unread fault_in text_of blob answers.Done old new fails others = absurd fails
 TextComesTo-unread fault_in text_of blob answers.Panicked old new fails others = absurd fails

@@ -7,16 +7,16 @@ use Rattle.std.specs.Char.{is_ascii_digit}
 use Rattle.polkatool_cmd.specs.Values.{digits_behind, below}
 
 -- a digit more
-pub digits_behind-digit : (n b : ℕ) (bs : List ℕ) → is_ascii_digit b ≡ true → digits_behind n (b ∷ bs) ≡ digits_behind (10 * n + (b - 48)) bs
+digits_behind-digit : (n b : ℕ) (bs : List ℕ) → is_ascii_digit b ≡ true → digits_behind n (b ∷ bs) ≡ digits_behind (10 * n + (b - 48)) bs
 unfolding digits_behind
 digits_behind-digit n b bs digit = rw digit refl
 
 -- another byte
-pub digits_behind-other : (n b : ℕ) (bs : List ℕ) → is_ascii_digit b ≡ false → digits_behind n (b ∷ bs) ≡ None
+digits_behind-other : (n b : ℕ) (bs : List ℕ) → is_ascii_digit b ≡ false → digits_behind n (b ∷ bs) ≡ None
 unfolding digits_behind
 digits_behind-other n b bs other = rw other refl
 
-pub digits_behind-nil : (n : ℕ) → digits_behind n [] ≡ Some n
+digits_behind-nil : (n : ℕ) → digits_behind n [] ≡ Some n
 unfolding digits_behind
 digits_behind-nil n = refl
 

@@ -7,7 +7,8 @@ use Rattle.faults.specs.First.{where_true, first_below}
 use Rattle.faults.proofs.Firsts.{first_below-more}
 use Rattle.symbols.specs.Parts.{same}
 use Rattle.symbols.specs.Wanted.{Import, Wanted, name_of, import_name_at, import_of}
-use Rattle.polkatool_cmd.specs.LinkWords.{Item, is_link, imports, repeats_import}
+use Rattle.polkatool_cmd.specs.Items.{Item}
+use Rattle.polkatool_cmd.specs.LinkWords.{is_link, imports, repeats_import}
 
 and_right : (a b : Bool) → (a && b) ≡ true → b ≡ true
 and_right true b e = e

@@ -1,6 +1,5 @@
 mod Names
-mod Naming
-mod LinkItems
+mod ItemsLemmas
 mod Importing
 mod LastSign
 mod Digits

@@ -9,11 +9,11 @@ use Rattle.polkatool_cmd.specs.Faults.{limit_of, file_too_large, too_large_from,
 use Rattle.polkatool_cmd.specs.declared.answer.Answer.{Answer}
 use Rattle.polkatool_cmd.specs.declared.answer.Answer.TheVariants as answers
 use Rattle.polkatool_cmd.specs.Linking.{IsTooLarge, FailsToRead, FailsToReadOne, HasLarge, HasFailed, FailsToReadAll}
-use Rattle.polkatool_cmd.specs.World.{Holds}
+use Rattle.polkatool_cmd.specs.Snapshot.{Holds}
 use Rattle.polkatool_cmd.specs.LinkAnswers.{HoldFiles}
 
 -- a file more that is not too large
-pub fit_more : (number left : ℕ) (files : List (List ℕ)) (file : List ℕ) → too_large_from number left files ≡ None → length file ≤ limit_of (left - total files) → too_large_from number left (files ++ (file ∷ [])) ≡ None
+fit_more : (number left : ℕ) (files : List (List ℕ)) (file : List ℕ) → too_large_from number left files ≡ None → length file ≤ limit_of (left - total files) → too_large_from number left (files ++ (file ∷ [])) ≡ None
 unfolding total
 fit_more number left [] file e le =
     let same : left - 0 ≡ left = omega arith in
@@ -26,7 +26,7 @@ fit_more number left (first ∷ files) file e le = by_first (nat_lt (limit_of le
     by_first false f more = more f
 
 -- a file more that is too large
-pub large_more : (number left at : ℕ) (files : List (List ℕ)) (file : List ℕ) → too_large_from number left files ≡ None → at ≡ number + length files → limit_of (left - total files) < length file → too_large_from number left (files ++ (file ∷ [])) ≡ Some (file_too_large at)
+large_more : (number left at : ℕ) (files : List (List ℕ)) (file : List ℕ) → too_large_from number left files ≡ None → at ≡ number + length files → limit_of (left - total files) < length file → too_large_from number left (files ++ (file ∷ [])) ≡ Some (file_too_large at)
 unfolding total
 large_more number left at [] file e is lt =
     let same : left - 0 ≡ left = omega arith in
@@ -40,13 +40,13 @@ large_more number left at (first ∷ files) file e is lt = by_first (nat_lt (lim
     by_first false f more = more f
 
 -- a name more holds a file more
-pub hold_more : (told : Option Files) (names files : List (List ℕ)) (name file : List ℕ) → HoldFiles told names files → slice_get names (length files) ≡ Some name → Holds told name file → HoldFiles told names (files ++ (file ∷ []))
+hold_more : (told : Option Files) (names files : List (List ℕ)) (name file : List ℕ) → HoldFiles told names files → slice_get names (length files) ≡ Some name → Holds told name file → HoldFiles told names (files ++ (file ∷ []))
 hold_more told [] [] name file h e held = absurd cc
 hold_more told (first ∷ names) [] name file h e held = (let same : first ≡ name = cc in (rw same held, tt))
 hold_more told [] (one ∷ files) name file h e held = absurd h
 hold_more told (first ∷ names) (one ∷ files) name file h e held = (h.0, hold_more told names files name file h.1 e held)
 
-pub total_more : (files : List (List ℕ)) (file : List ℕ) → total (files ++ (file ∷ [])) ≡ total files + length file
+total_more : (files : List (List ℕ)) (file : List ℕ) → total (files ++ (file ∷ [])) ≡ total files + length file
 unfolding total
 total_more [] file = omega arith
 total_more (first ∷ files) file = omega (arith, total_more files file)
@@ -75,7 +75,7 @@ read_more told names files files' at left len name file h there held fits is_mor
     })
 
 -- a file that is too large
-pub read_large : (told : Option Files) (names files : List (List ℕ)) (at left : ℕ) (name : List ℕ) → HasReadSoFar told names files at left → slice_get names at ≡ Some name → IsTooLarge told name left → HasLarge told names (file_too_large at)
+read_large : (told : Option Files) (names files : List (List ℕ)) (at left : ℕ) (name : List ℕ) → HasReadSoFar told names files at left → slice_get names at ≡ Some name → IsTooLarge told name left → HasLarge told names (file_too_large at)
 read_large told names files at left name h there large =
     let rest : 2 ^ 26 - total files ≡ left = omega (arith, h.left_is) in
     let here : slice_get names (length files) ≡ Some name = ap (slice_get names) h.count ∙ there in
@@ -86,7 +86,7 @@ read_large told names files at left name h there large =
     }
 
 -- a file that isn't read
-pub read_failed : (told : Option Files) (names files : List (List ℕ)) (at left before now : ℕ) (name : List ℕ) → HasReadSoFar told names files at left → slice_get names at ≡ Some name → FailsToRead told name before now → HasFailed told names before now
+read_failed : (told : Option Files) (names files : List (List ℕ)) (at left before now : ℕ) (name : List ℕ) → HasReadSoFar told names files at left → slice_get names at ≡ Some name → FailsToRead told name before now → HasFailed told names before now
 read_failed told names files at left before now name h there failed =
     record { files = files; held = h.held; fit = h.fit; name = name; next = ap (slice_get names) h.count ∙ there; failed = failed }
 

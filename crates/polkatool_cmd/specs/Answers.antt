@@ -1,16 +1,17 @@
 -- What a command comes to, and how that is told.
-use Rattle.std.specs.Prelude.{◌≡◌, ◌⊎◌, ℕ, List, [], Option, Some, None, Ok}
+use Rattle.std.specs.Prelude.{◌≡◌, ◌⊎◌, ℕ, List, Option, Some, None, Ok}
 use Rattle.std.specs.Io.KnownBytes.{Appends}
 use Rattle.outside.specs.Outside.{Files, Rose, AppendsFront, KeepsOthers}
 use Rattle.elf_objects.specs.declared.fault.Fault.{Fault}
 use Rattle.runs.specs.Runs.{Paid}
-use Rattle.machine_state.specs.Ends.{Event, End}
+use Rattle.machine_state.specs.Ends.{Event, End, no_host}
 use Rattle.blob_codec.specs.Grammar.{Container}
 use Rattle.blob_codec.specs.Reading.{container_of}
 use Rattle.disasm.specs.Disassembly.{disassembly}
 use Rattle.link_core.specs.Runs.{machine_run}
-use Rattle.polkatool_cmd.specs.Commands.{Command, Link, Run, Check, Disassemble, RunCommand}
-use Rattle.polkatool_cmd.specs.World.{World, Stream, Holds, HasFault, FailedRead}
+use Rattle.polkatool_cmd.specs.Commands.{Command, Link, Run, Check, Disassemble}
+use Rattle.polkatool_cmd.specs.RunWords.{RunCommand}
+use Rattle.polkatool_cmd.specs.Snapshot.{Snapshot, Stream, Holds, HasFault, FailedRead}
 use Rattle.polkatool_cmd.specs.LinkAnswers.{LinkComesTo}
 use Rattle.polkatool_cmd.specs.BlobFaults.{first_disassemble_fault}
 use Rattle.polkatool_cmd.specs.RunFaults.{first_run_fault}
@@ -36,10 +37,10 @@ pub record HoldsContainer (first_of : List ℕ → Option Fault) (files : Option
 pub record HoldsRun (files : Option Files) (asked : RunCommand) (run : Paid Event End) : Type 0 where
   pub container : Container
   pub holds : HoldsContainer (first_run_fault asked.entry asked.argument) files asked.blob container
-  pub run_is : run ≡ machine_run container asked.entry asked.argument asked.gas
+  pub run_is : run ≡ machine_run no_host tt container asked.entry asked.argument asked.gas
 
 -- The run ended with this status, and its transcript was put; all else is as before.
-pub record HasRun (asked : RunCommand) (status : Status) (old new : World) : Type 0 where
+pub record HasRun (asked : RunCommand) (status : Status) (old new : Snapshot) : Type 0 where
   pub run : Paid Event End
   pub is_run : HoldsRun old.files asked run
   pub ended : status_of run.end ≡ status
@@ -47,7 +48,7 @@ pub record HasRun (asked : RunCommand) (status : Status) (old new : World) : Typ
   pub others : new ≡ record old { out = new.out }
 
 -- A put of the run's transcript failed after a front of it; all else is as before.
-pub record FailedTranscript (asked : RunCommand) (old new : World) : Type 0 where
+pub record FailedTranscript (asked : RunCommand) (old new : Snapshot) : Type 0 where
   pub run : Paid Event End
   pub is_run : HoldsRun old.files asked run
   pub told : AppendsFront old.out new.out (transcript run)
@@ -57,7 +58,7 @@ pub record FailedTranscript (asked : RunCommand) (old new : World) : Type 0 wher
 -- What a run comes to: it ended, as the answer says, and is told; or it is refused with the first fault of the blob's
 -- file at the entry and with the argument; or a read or a put failed; or memory was refused. After a refusal and after
 -- want of memory all is as before.
-abbrev pub RunComesTo : RunCommand → Answer → World → World → Type 0
+abbrev pub RunComesTo : RunCommand → Answer → Snapshot → Snapshot → Type 0
 RunComesTo asked answers.Done old new = HasRun asked statuses.Done old new
 RunComesTo asked answers.Panicked old new = HasRun asked statuses.Panicked old new
 RunComesTo asked answers.Faulted old new = HasRun asked statuses.Faulted old new
@@ -70,7 +71,7 @@ RunComesTo asked answers.Memory old new = new ≡ old
 
 -- The name holds a container without such a fault, and its text was put; all else is as before.
 pub record HasTold (first_of : List ℕ → Option Fault) (text_of : Container → List ℕ) (blob : List ℕ)
-    (old new : World) : Type 0 where
+    (old new : Snapshot) : Type 0 where
   pub container : Container
   pub holds : HoldsContainer first_of old.files blob container
   pub told : Appends old.out new.out (text_of container)
@@ -78,7 +79,7 @@ pub record HasTold (first_of : List ℕ → Option Fault) (text_of : Container �
 
 -- A put of the container's text failed after a front of it; all else is as before.
 pub record FailedText (first_of : List ℕ → Option Fault) (text_of : Container → List ℕ) (blob : List ℕ)
-    (old new : World) : Type 0 where
+    (old new : Snapshot) : Type 0 where
   pub container : Container
   pub holds : HoldsContainer first_of old.files blob container
   pub told : AppendsFront old.out new.out (text_of container)
@@ -88,7 +89,7 @@ pub record FailedText (first_of : List ℕ → Option Fault) (text_of : Containe
 -- What a command comes to that puts a text of a container: the text is put; or the command is refused with the first
 -- fault of the blob's file; or a read or a put failed; or memory was refused. After a refusal and after want of memory
 -- all is as before.
-abbrev pub TextComesTo : (List ℕ → Option Fault) → (Container → List ℕ) → List ℕ → Answer → World → World → Type 0
+abbrev pub TextComesTo : (List ℕ → Option Fault) → (Container → List ℕ) → List ℕ → Answer → Snapshot → Snapshot → Type 0
 TextComesTo first_of text_of blob answers.Done old new = HasTold first_of text_of blob old new
 TextComesTo first_of text_of blob (answers.Refused fault) old new =
     HasFault first_of old.files blob (Some fault) × (new ≡ old)
@@ -101,16 +102,16 @@ TextComesTo first_of text_of blob answers.FileFault old new =
 TextComesTo first_of text_of blob answers.Memory old new = new ≡ old
 
 -- what a check comes to: its text says that there is no fault
-abbrev pub CheckComesTo : List ℕ → Answer → World → World → Type 0
+abbrev pub CheckComesTo : List ℕ → Answer → Snapshot → Snapshot → Type 0
 CheckComesTo blob answer old new = TextComesTo first_check_fault (λ c. ok_text) blob answer old new
 
 -- what a disassembly comes to: it is the text, and every container has one
-abbrev pub DisassembleComesTo : List ℕ → Answer → World → World → Type 0
+abbrev pub DisassembleComesTo : List ℕ → Answer → Snapshot → Snapshot → Type 0
 DisassembleComesTo blob answer old new =
     TextComesTo first_disassemble_fault (λ c. disassembly c.program) blob answer old new
 
 -- What the words come to: a faulty command line is answered as one, and all is as before.
-abbrev pub ComesTo : Option Command → Answer → World → World → Type 0
+abbrev pub ComesTo : Option Command → Answer → Snapshot → Snapshot → Type 0
 ComesTo None answer old new = (answer ≡ answers.Usage) × (new ≡ old)
 ComesTo (Some (Link link)) answer old new = LinkComesTo link answer old new
 ComesTo (Some (Run run)) answer old new = RunComesTo run answer old new
@@ -144,7 +145,7 @@ Reports answers.FileFault status old new = Puts file_fault_line statuses.FileFau
 Reports answers.Memory status old new = Puts memory_line statuses.Memory status old new
 
 -- What the words come to is told.
-pub record Concludes (command : Option Command) (status : Status) (old new : World) (err err' : Stream) : Type 0 where
+pub record Concludes (command : Option Command) (status : Status) (old new : Snapshot) (err err' : Stream) : Type 0 where
   pub answer : Answer
   pub comes : ComesTo command answer old new
   pub reports : Reports answer status err err'

@@ -7,6 +7,7 @@ use Rattle.blob_codec.specs.declared.fault.BlobFault.TheVariants.{Truncated, Ove
 use Rattle.blob_codec.specs.Grammar.{Container}
 use Rattle.blob_codec.specs.Reading.{container_of}
 use Rattle.polkatool_cmd.specs.Faults.{too_large}
+use Rattle.polkatool_cmd.specs.declared.fault_codes.TheConstants.{TRUNCATED, OVERLONG, BAD_WIDTH, BAD_PADDING, LEFT_OVER}
 
 -- a fault of a blob, at an offset that the code gives a meaning: all other fields are 0
 abbrev pub blob_fault_at : ℕ → ℕ → Fault
@@ -17,16 +18,16 @@ abbrev pub blob_fault : ℕ → Fault
 blob_fault code = blob_fault_at code 0
 
 -- the code of what keeps bytes from being a container
-abbrev pub code_of : BlobFault → ℕ
-code_of Truncated = 40
-code_of Overlong = 41
-code_of BadWidth = 42
-code_of BadPadding = 43
-code_of LeftOver = 44
+abbrev pub blob_fault_code : BlobFault → ℕ
+blob_fault_code Truncated = TRUNCATED
+blob_fault_code Overlong = OVERLONG
+blob_fault_code BadWidth = BAD_WIDTH
+blob_fault_code BadPadding = BAD_PADDING
+blob_fault_code LeftOver = LEFT_OVER
 
 -- the fault of bytes that are no container
 abbrev pub no_container : BlobFault → Fault
-no_container found = blob_fault (code_of found)
+no_container found = blob_fault (blob_fault_code found)
 
 -- the bytes are no container, and this is their fault
 abbrev pub IsNoContainer : List ℕ → Fault → Type 0

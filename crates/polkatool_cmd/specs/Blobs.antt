@@ -4,7 +4,7 @@ use Rattle.std.specs.Io.KnownBytes.{Appends}
 use Rattle.outside.specs.Outside.{Files, Rose, Missing, AppendsFront}
 use Rattle.elf_objects.specs.declared.fault.Fault.{Fault}
 use Rattle.polkatool_cmd.specs.Faults.{too_large}
-use Rattle.polkatool_cmd.specs.World.{Holds, Stream}
+use Rattle.polkatool_cmd.specs.Snapshot.{Holds, Stream}
 use Rattle.polkatool_cmd.specs.declared.answer.Answer.{Answer}
 use Rattle.polkatool_cmd.specs.declared.answer.Answer.TheVariants as answers
 
@@ -20,12 +20,12 @@ pub record HoldsTooLarge (files : Option Files) (name : List ℕ) : Type 0 where
   pub len : 2 ^ 27 < length file
 
 -- how a read of a blob that gave no bytes is answered, with the counts of failed reads before and after it
-abbrev pub FailsToRead : Option Files → List ℕ → ℕ → ℕ → Answer → Type 0
-FailsToRead files name before now answers.FileFault = (before ≤ now) × (Rose before now ⊎ Missing files name)
-FailsToRead files name before now (answers.Refused fault) =
+abbrev pub FailsToReadBlob : Option Files → List ℕ → ℕ → ℕ → Answer → Type 0
+FailsToReadBlob files name before now answers.FileFault = (before ≤ now) × (Rose before now ⊎ Missing files name)
+FailsToReadBlob files name before now (answers.Refused fault) =
     (fault ≡ too_large) × HoldsTooLarge files name × (now ≡ before)
-FailsToRead files name before now answers.Memory = now ≡ before
-FailsToRead files name before now answer = ⊥
+FailsToReadBlob files name before now answers.Memory = now ≡ before
+FailsToReadBlob files name before now answer = ⊥
 
 -- how the text of a container is told on a sink: by the whole text, or a put failed after a front of it; where there is
 -- a fault the answer is that one, and nothing is put

@@ -1,10 +1,11 @@
 -- Files that are too large to be read.
 use Rattle.std.specs.Prelude.{ℕ, ◌+◌, ◌-◌, ◌^◌, min, List, [], ◌∷◌, length, nat_lt, if◌then◌else◌, Option, Some, None}
 use Rattle.elf_objects.specs.declared.fault.Fault.{Fault}
+use Rattle.polkatool_cmd.specs.declared.fault_codes.TheConstants.{FILE_TOO_LARGE}
 
 -- a file with too many bytes: code 61, with the file's number in the order of reading
 abbrev pub file_too_large : ℕ → Fault
-file_too_large number = record { code = 61; object = number; section = 0; offset = 0 }
+file_too_large number = record { code = FILE_TOO_LARGE; object = number; section = 0; offset = 0 }
 
 -- the one file of a command
 abbrev pub too_large : Fault

@@ -1,10 +1,14 @@
 pub mod Values
-pub mod World
-pub mod Commands
+pub mod Snapshot
+pub mod Items
+pub mod ItemRead
 pub mod LinkWords
 pub mod LinkRead
 pub mod LinkAnswers
 pub mod Linking
+pub mod RunWords
+pub mod RunRead
+pub mod Commands
 pub mod FaultNames
 pub mod Faults
 pub mod Statuses

@@ -2,7 +2,7 @@
 use Rattle.std.specs.Prelude.{ℕ, List, ◌++◌, codes}
 use Rattle.std.specs.Fmt.{decimal}
 use Rattle.elf_objects.specs.declared.fault.Fault.{Fault}
-use Rattle.polkatool_cmd.specs.FaultNames.{name_of}
+use Rattle.polkatool_cmd.specs.FaultNames.{fault_name}
 
 -- what a check of a program without a fault puts
 abbrev pub ok_text : List ℕ
@@ -19,16 +19,16 @@ abbrev pub memory_line : List ℕ
 memory_line = codes "polkatool: out of memory\n"
 
 -- a label and a number in decimal
-abbrev pub field : List ℕ → ℕ → List ℕ
-field label number = label ++ decimal number
+abbrev pub number_field : List ℕ → ℕ → List ℕ
+number_field label number = label ++ decimal number
 
 -- the line on err for a refusal: the code, its name, and where the fault is
 unfoldable pub refused_line : Fault → List ℕ
 refused_line f =
-    field (codes "refused ") f.code
+    number_field (codes "refused ") f.code
     ++ codes " "
-    ++ name_of f.code
-    ++ field (codes " object=") f.object
-    ++ field (codes " section=") f.section
-    ++ field (codes " offset=") f.offset
+    ++ fault_name f.code
+    ++ number_field (codes " object=") f.object
+    ++ number_field (codes " section=") f.section
+    ++ number_field (codes " offset=") f.offset
     ++ codes "\n"

@@ -4,10 +4,10 @@ use Rattle.std.specs.Io.KnownBytes.{Appends}
 use Rattle.outside.specs.Outside.{Files, Rose, AppendsFront}
 use Rattle.elf_objects.specs.declared.fault.Fault.{Fault}
 use Rattle.link_core.specs.Linked.{Linked, HoldsLinked}
-use Rattle.link_core.specs.Faults.{given_of, first_fault}
+use Rattle.link_core.specs.Faults.{input_of, HasNoFault, HasFirstFault}
 use Rattle.polkatool_cmd.specs.LinkWords.{LinkCommand}
 use Rattle.polkatool_cmd.specs.Faults.{first_too_large}
-use Rattle.polkatool_cmd.specs.World.{World, Holds, FailedRead}
+use Rattle.polkatool_cmd.specs.Snapshot.{Snapshot, Holds, FailedRead}
 use Rattle.polkatool_cmd.specs.declared.answer.Answer.{Answer}
 use Rattle.polkatool_cmd.specs.declared.answer.Answer.TheVariants as answers
 
@@ -27,11 +27,11 @@ pub record HasObjects (told : Option Files) (link : LinkCommand) (files : List (
 pub record LinksFiles (told : Option Files) (link : LinkCommand) (linked : Linked) : Type 0 where
   pub files : List (List ℕ)
   pub objects : HasObjects told link files
-  pub no_fault : first_fault files link.wanted ≡ None
-  pub holds : HoldsLinked (given_of files link.wanted) linked
+  pub no_fault : HasNoFault files link.wanted
+  pub holds : HoldsLinked (input_of files link.wanted) linked
 
 -- The linked program's container was written and its map put; all else is as before.
-pub record HasLinked (link : LinkCommand) (old new : World) : Type 0 where
+pub record HasLinked (link : LinkCommand) (old new : Snapshot) : Type 0 where
   pub linked : Linked
   pub links : LinksFiles old.files link linked
   pub written : Holds new.files link.output linked.container
@@ -48,10 +48,10 @@ pub record HasLargeFile (told : Option Files) (link : LinkCommand) (fault : Faul
 pub record HasObjectFault (told : Option Files) (link : LinkCommand) (fault : Fault) : Type 0 where
   pub files : List (List ℕ)
   pub objects : HasObjects told link files
-  pub first : first_fault files link.wanted ≡ Some fault
+  pub first : HasFirstFault files link.wanted fault
 
 -- A file is missing or its read failed, and those before it were read and aren't too large; all else is as before.
-pub record FailedObject (link : LinkCommand) (old new : World) : Type 0 where
+pub record FailedObject (link : LinkCommand) (old new : Snapshot) : Type 0 where
   pub files : List (List ℕ)
   pub held : HoldFiles old.files link.objects files
   pub fit : first_too_large files ≡ None
@@ -60,14 +60,14 @@ pub record FailedObject (link : LinkCommand) (old new : World) : Type 0 where
   pub failed : FailedRead name old new
 
 -- The objects were linked, and the write of the output failed; all else is as before.
-pub record FailedWrite (link : LinkCommand) (old new : World) : Type 0 where
+pub record FailedWrite (link : LinkCommand) (old new : Snapshot) : Type 0 where
   pub linked : Linked
   pub links : LinksFiles old.files link linked
   pub cause : Rose old.writes new.writes
   pub others : new ≡ record old { files = new.files; writes = new.writes }
 
 -- The output was written, and the put of the map failed after a front of it; all else is as before.
-pub record FailedPut (link : LinkCommand) (old new : World) : Type 0 where
+pub record FailedPut (link : LinkCommand) (old new : Snapshot) : Type 0 where
   pub linked : Linked
   pub links : LinksFiles old.files link linked
   pub written : Holds new.files link.output linked.container
@@ -78,7 +78,7 @@ pub record FailedPut (link : LinkCommand) (old new : World) : Type 0 where
 -- What a link comes to: it is done; or it is refused, with the first file that is too large, or else with the first fault of
 -- the objects; or a read, a write or a put failed; or memory was refused. After a refusal and after want of memory all is
 -- as before.
-abbrev pub LinkComesTo : LinkCommand → Answer → World → World → Type 0
+abbrev pub LinkComesTo : LinkCommand → Answer → Snapshot → Snapshot → Type 0
 LinkComesTo link answers.Done old new = HasLinked link old new
 LinkComesTo link (answers.Refused fault) old new =
     (HasLargeFile old.files link fault ⊎ HasObjectFault old.files link fault) × (new ≡ old)

@@ -1,18 +1,11 @@
 -- What the values stand for that are read from the words of a link.
 use Rattle.std.specs.Prelude.{List, length}
 use Rattle.symbols.specs.Wanted.{Import}
-use Rattle.polkatool_cmd.specs.LinkWords.{Item, Setting, Unvalued, File, LinkCommand, items, outputs, entries, imports, stacks, objects, link_with}
+use Rattle.polkatool_cmd.specs.Items.{Item, items}
+use Rattle.polkatool_cmd.specs.LinkWords.{LinkCommand, outputs, entries, imports, stacks, objects, link_with}
 use Rattle.polkatool_cmd.specs.declared.link_command.LinkCommand.{LinkCommand as Asked}
 use Rattle.polkatool_cmd.specs.declared.link_words.Counts.{Counts}
 use Rattle.polkatool_cmd.specs.declared.link_words.Import.{Import as Read}
-use Rattle.polkatool_cmd.specs.declared.link_words.Item.{Item as Cut}
-use Rattle.polkatool_cmd.specs.declared.link_words.Item.TheVariants as cut
-
--- an item that was cut
-abbrev pub item_of : Cut → Item
-item_of (cut.Setting option value) = Setting option.now value.now
-item_of (cut.Unvalued option) = Unvalued option.now
-item_of (cut.File word) = File word.now
 
 -- an import that was read
 abbrev pub read_import : Read → Import

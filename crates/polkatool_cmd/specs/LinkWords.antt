@@ -1,32 +1,12 @@
--- What the words of a link ask for: they are cut into items, and the items are a link where they meet its conditions.
+-- What the words of a link ask for: their items are a link where they meet its conditions.
 use Rattle.std.specs.Prelude.{ℕ, ◌^◌, List, [], ◌∷◌, length, Bool, false, ◌&&◌, ◌||◌, not, ◌==◌, nat_le, if◌then◌else◌, Option, Some, None, is_some, unwrap_or, slice_get, codes, option_map, option_and_then}
 use Rattle.std.specs.List.{filter_map, list_all, list_any, before_last, after_last}
 use Rattle.std.specs.Str.{bytes_eq}
 use Rattle.symbols.specs.declared.wanted.ImportKind.{ImportKind}
 use Rattle.symbols.specs.declared.wanted.ImportKind.TheVariants.{Host, Sbrk}
 use Rattle.symbols.specs.Wanted.{Import, Wanted}
-use Rattle.polkatool_cmd.specs.Values.{begins_with_dash, is_name, file_of, number_below}
-
--- An item of a command line: an option with its value, an option at the end, which has none, or a word that names a file.
-pub data Item : Type 0 where
-  Setting : (option value : List ℕ) → Item
-  Unvalued : (option : List ℕ) → Item
-  File : (word : List ℕ) → Item
-
--- The items of words, from left to right: a word that begins with '-' is an option and takes the next word as its value,
--- whatever that is; any other word names a file.
-unfoldable pub items : List (List ℕ) → List Item
-items [] = []
-items (word ∷ []) = (if begins_with_dash word then Unvalued word else File word) ∷ []
-items (word ∷ next ∷ rest) =
-    if begins_with_dash word then Setting word next ∷ items rest
-    else File word ∷ items (next ∷ rest)
-
--- the value that an item gives an option
-abbrev pub value_in : List ℕ → Item → Option (List ℕ)
-value_in option (Setting name value) = if bytes_eq name option then Some value else None
-value_in option (Unvalued name) = None
-value_in option (File word) = None
+use Rattle.polkatool_cmd.specs.Items.{Item, items, value_in, file_in}
+use Rattle.polkatool_cmd.specs.Values.{is_name, number_below}
 
 -- the output's name, which may begin with '-'
 abbrev pub output_of : List ℕ → Option (List ℕ)
@@ -38,8 +18,8 @@ wanted_name [] = None
 wanted_name (b ∷ bs) = Some (b ∷ bs)
 
 -- what an import stands for: the host call of a number below 2^31, or `sbrk`
-abbrev pub kind_of : List ℕ → Option ImportKind
-kind_of word = if bytes_eq word (codes "sbrk") then Some Sbrk else option_map Host (number_below (2 ^ 31) word)
+abbrev pub kind_in_value : List ℕ → Option ImportKind
+kind_in_value word = if bytes_eq word (codes "sbrk") then Some Sbrk else option_map Host (number_below (2 ^ 31) word)
 
 abbrev pub import_with : Option (List ℕ) → Option ImportKind → Option Import
 import_with None kind = None
@@ -49,9 +29,9 @@ abbrev pub is_equals_sign : ℕ → Bool
 is_equals_sign b = b == 61
 
 -- The import that NAME=NUMBER or NAME=sbrk spells, where NAME ends at the last '='. Without a '=' there is no NAME.
-abbrev pub import_of : List ℕ → Option Import
-import_of value =
-    import_with (wanted_name (before_last is_equals_sign value)) (kind_of (after_last is_equals_sign value))
+abbrev pub import_in_value : List ℕ → Option Import
+import_in_value value =
+    import_with (wanted_name (before_last is_equals_sign value)) (kind_in_value (after_last is_equals_sign value))
 
 -- the output that an item names
 abbrev pub output_in : Item → Option (List ℕ)
@@ -63,23 +43,17 @@ entry_in item = option_and_then wanted_name (value_in (codes "-e") item)
 
 -- the import that an item names
 abbrev pub import_in : Item → Option Import
-import_in item = option_and_then import_of (value_in (codes "-i") item)
+import_in item = option_and_then import_in_value (value_in (codes "-i") item)
 
 -- how many bytes an item gives the stack, below 2^24
 abbrev pub stack_in : Item → Option ℕ
 stack_in item = option_and_then (number_below (2 ^ 24)) (value_in (codes "--stack") item)
 
--- the object that an item names
-abbrev pub object_in : Item → Option (List ℕ)
-object_in (Setting option value) = None
-object_in (Unvalued option) = None
-object_in (File word) = file_of word
-
 -- whether an item is one of these
 abbrev pub is_of_link : Item → Bool
 is_of_link item =
     is_some (output_in item) || is_some (entry_in item) || is_some (import_in item) || is_some (stack_in item)
-    || is_some (object_in item)
+    || is_some (file_in item)
 
 -- whether a name is imported
 abbrev pub is_imported : List ℕ → List Import → Bool
@@ -104,7 +78,7 @@ abbrev pub stacks : List Item → List ℕ
 stacks = filter_map stack_in
 
 abbrev pub objects : List Item → List (List ℕ)
-objects = filter_map object_in
+objects = filter_map file_in
 
 -- Whether items are a link: each is of a link; one names the output, and at most one the stack; 1 to 1,024 name objects;
 -- at most 1,000 name entries, and at most 1,000 imports, of which no two have one name.
@@ -143,8 +117,8 @@ link_with found output stack = record {
 }
 
 -- the link that items are
-abbrev pub link_of : List Item → Option LinkCommand
-link_of found =
+abbrev pub link_from : List Item → Option LinkCommand
+link_from found =
     if is_link found then
     option_map (λ output. link_with found output (unwrap_or (slice_get (stacks found) 0) default_stack))
     (slice_get (outputs found) 0)
@@ -153,4 +127,4 @@ link_of found =
 -- The command that the words behind `link` are: in any order -o OUT, once; -e NAME and -i NAME=NUMBER or -i NAME=sbrk,
 -- which repeat; --stack N, at most once; and OBJ, at least once. None where they are a faulty command line.
 abbrev pub link_command_of : List (List ℕ) → Option LinkCommand
-link_command_of words = link_of (items words)
+link_command_of words = link_from (items words)

@@ -4,7 +4,7 @@ use Rattle.outside.specs.Outside.{Files, Rose, Missing}
 use Rattle.elf_objects.specs.declared.fault.Fault.{Fault}
 use Rattle.polkatool_cmd.specs.LinkWords.{LinkCommand}
 use Rattle.polkatool_cmd.specs.Faults.{limit_of, file_too_large, first_too_large}
-use Rattle.polkatool_cmd.specs.World.{Holds}
+use Rattle.polkatool_cmd.specs.Snapshot.{Holds}
 use Rattle.polkatool_cmd.specs.LinkAnswers.{HoldFiles, HasLargeFile, HasObjectFault}
 use Rattle.polkatool_cmd.specs.declared.answer.Answer.{Answer}
 use Rattle.polkatool_cmd.specs.declared.answer.Answer.TheVariants as answers

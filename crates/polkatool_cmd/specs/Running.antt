@@ -11,11 +11,11 @@ use Rattle.pvm_machine.specs.Machine.{Machine}
 use Rattle.pvm_machine.specs.Started.{started}
 use Rattle.pvm_machine.specs.declared.answers.Exit.{Exit}
 use Rattle.pvm_machine.specs.declared.answers.Exit.TheVariants as exit
-use Rattle.polkatool_cmd.specs.Commands.{RunCommand}
+use Rattle.polkatool_cmd.specs.RunWords.{RunCommand}
 use Rattle.polkatool_cmd.specs.RunFaults.{first_run_fault}
 use Rattle.polkatool_cmd.specs.Transcript.{transcript}
 use Rattle.polkatool_cmd.specs.Statuses.{status_of}
-use Rattle.polkatool_cmd.specs.World.{Stream}
+use Rattle.polkatool_cmd.specs.Snapshot.{Stream}
 use Rattle.polkatool_cmd.specs.declared.answer.Answer.{Answer}
 use Rattle.polkatool_cmd.specs.declared.answer.Answer.TheVariants as answers
 use Rattle.polkatool_cmd.specs.declared.run_fault.RunFault.{RunFault}
@@ -36,13 +36,13 @@ FailsToStart file asked (Bad fault) = first_run_fault asked.entry asked.argument
 FailsToStart file asked NoMemory = Unit {0}
 
 -- the end of a run that a machine answers, with what it leaves
-abbrev pub end_of : Exit → State → Option End
-end_of exit.Halt s = Some (halt s)
-end_of exit.Panic s = Some (Panic s.memory)
-end_of (exit.Fault address) s = Some (Fault address s.memory)
-end_of exit.OutOfGas s = None
-end_of (exit.Host number) s = Some (Unanswered number s.memory)
-end_of exit.Memory s = None
+abbrev pub end_of_exit : Exit → State → Option End
+end_of_exit exit.Halt s = Some (halt s)
+end_of_exit exit.Panic s = Some (Panic s.memory)
+end_of_exit (exit.Fault address) s = Some (Fault address s.memory)
+end_of_exit exit.OutOfGas s = None
+end_of_exit (exit.Host number) s = Some (Unanswered number s.memory)
+end_of_exit exit.Memory s = None
 
 -- the answer of a run with this status of its end
 abbrev pub EndsAs : Answer → Status → Type 0

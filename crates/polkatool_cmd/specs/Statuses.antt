@@ -14,14 +14,14 @@ status_of (Some (NoReply number memory)) = Unanswered
 status_of (Some (WrongReply line address memory)) = BadReply
 
 -- the exit status that tells a status
-abbrev pub number_of : Status → ℕ
-number_of Done = 0
-number_of Refused = 1
-number_of Usage = 2
-number_of FileFault = 3
-number_of Panicked = 4
-number_of Faulted = 5
-number_of OutOfGas = 6
-number_of Unanswered = 7
-number_of BadReply = 8
-number_of Memory = 9
+abbrev pub status_number : Status → ℕ
+status_number Done = 0
+status_number Refused = 1
+status_number Usage = 2
+status_number FileFault = 3
+status_number Panicked = 4
+status_number Faulted = 5
+status_number OutOfGas = 6
+status_number Unanswered = 7
+status_number BadReply = 8
+status_number Memory = 9

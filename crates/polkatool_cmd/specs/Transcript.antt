@@ -5,11 +5,11 @@ use Rattle.runs.specs.Runs.{Paid}
 use Rattle.machine_state.specs.Ends.{Event, End, Halt, Panic, Fault, Unanswered, BadReply}
 use Rattle.machine_state.specs.Output.{output}
 use Rattle.disasm.specs.Digits.{hex, hex_digits}
-use Rattle.polkatool_cmd.specs.Lines.{field}
+use Rattle.polkatool_cmd.specs.Lines.{number_field}
 
 -- the line of a host call: its number, and the registers in sixteen digits each
 unfoldable pub event_line : Event → List ℕ
-event_line e = field (codes "call ") e.number ++ flat_map (λ value. codes " " ++ hex_digits 16 value) e.registers ++ codes "\n"
+event_line e = number_field (codes "call ") e.number ++ flat_map (λ value. codes " " ++ hex_digits 16 value) e.registers ++ codes "\n"
 
 -- the address of a page fault, in eight digits
 abbrev pub address_field : ℕ → List ℕ
@@ -21,12 +21,12 @@ end_line None = codes "out-of-gas\n"
 end_line (Some (Halt registers memory)) = codes "halt output=" ++ hex (output registers memory) ++ codes "\n"
 end_line (Some (Panic memory)) = codes "panic\n"
 end_line (Some (Fault address memory)) = codes "fault" ++ address_field address ++ codes "\n"
-end_line (Some (Unanswered number memory)) = field (codes "unanswered call=") number ++ codes "\n"
-end_line (Some (BadReply line address memory)) = field (codes "bad-reply line=") line ++ address_field address ++ codes "\n"
+end_line (Some (Unanswered number memory)) = number_field (codes "unanswered call=") number ++ codes "\n"
+end_line (Some (BadReply line address memory)) = number_field (codes "bad-reply line=") line ++ address_field address ++ codes "\n"
 
 -- the line of the gas that is left
 abbrev pub gas_line : ℕ → List ℕ
-gas_line left = field (codes "gas left=") left ++ codes "\n"
+gas_line left = number_field (codes "gas left=") left ++ codes "\n"
 
 -- the lines of a run under gas
 abbrev pub transcript : Paid Event End → List ℕ

@@ -46,9 +46,9 @@ abbrev pub argument_of : List ℕ → Option (List ℕ)
 argument_of word = result_ok (decode_of word)
 
 -- the bytes that a word spells, where it spells some
-abbrev pub spelled : List ℕ → List ℕ
-spelled word = unwrap_or (argument_of word) []
+abbrev pub spelled_bytes : List ℕ → List ℕ
+spelled_bytes word = unwrap_or (argument_of word) []
 
 -- a word that spells some
 abbrev pub IsSpelled : List ℕ → Type 0
-IsSpelled word = argument_of word ≡ Some (spelled word)
+IsSpelled word = argument_of word ≡ Some (spelled_bytes word)

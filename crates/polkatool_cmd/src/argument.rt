@@ -15,18 +15,18 @@ pub(crate) struct Argument<'a> {
 }
 
 impl<'a> Argument<'a> {
-    ghost use Rattle.polkatool_cmd.specs.Commands.{argument_in};
+    ghost use Rattle.polkatool_cmd.specs.RunRead.{argument_bytes};
 
     /// The argument without bytes.
     pub(crate) fn empty() -> Argument<'a>
-        ensures { argument_in result ≡ [] }
+        ensures { argument_bytes result ≡ [] }
     {
         Argument { digits: &[] }
     }
 
     /// The argument that a word spells: two digits of either case for each byte, or none at all. It takes no memory.
     pub(crate) fn read(word: &'a [u8]) -> Option<Argument<'a>>
-        ensures { option_map argument_in result ≡ argument_of word.now }
+        ensures { option_map argument_bytes result ≡ argument_of word.now }
     {
         if word.len() % 2 == 0 && are_digits(word) {
             Some(Argument { digits: word })
@@ -37,7 +37,7 @@ impl<'a> Argument<'a> {
 
     /// The bytes of the argument.
     pub(crate) fn bytes(&self, alloc: Global) -> Result<Vec<u8>, AllocError>
-        ensures { IfOk result (λ bytes. bytes.items ≡ argument_in self.now) }
+        ensures { IfOk result (λ bytes. bytes.items ≡ argument_bytes self.now) }
     {
         match hex::decode(alloc, self.digits) {
             Ok(bytes) => Ok(bytes),

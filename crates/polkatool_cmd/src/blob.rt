@@ -2,11 +2,11 @@
 
 ghost use Rattle.std.specs.Prelude.{◌≡◌, ◌^◌, ◌≤◌, Ok, IfOk, OnOk, MatchResult, length};
 ghost use Rattle.blob_codec.specs.Reading.{container_of};
-ghost use Rattle.polkatool_cmd.specs.BlobFaults.{blob_fault_at, blob_fault as blob_fault_of, code_of, no_container, IsNoContainer};
-ghost use Rattle.polkatool_cmd.specs.Blobs.{HoldsBlob, FailsToRead};
+ghost use Rattle.polkatool_cmd.specs.BlobFaults.{blob_fault_at, blob_fault as blob_fault_of, blob_fault_code, no_container, IsNoContainer};
+ghost use Rattle.polkatool_cmd.specs.Blobs.{HoldsBlob, FailsToReadBlob};
 
 use crate::answer::Answer;
-use crate::fault_names::{BAD_PADDING, BAD_WIDTH, FILE_TOO_LARGE, LEFT_OVER, OVERLONG, TRUNCATED};
+use crate::fault_codes::{BAD_PADDING, BAD_WIDTH, FILE_TOO_LARGE, LEFT_OVER, OVERLONG, TRUNCATED};
 use blob_codec::{BlobFault, Container};
 use elf_objects::Fault;
 use outside::{Bytes, Folder, ReadFault};
@@ -26,7 +26,7 @@ pub(crate) fn read_blob<F: Folder>(
 ) -> Result<Bytes, Answer>
     ensures read { MatchResult result
         (HoldsBlob (F.files files.old) name.now)
-        (FailsToRead (F.files files.old) name.now (F.read_faults files.old) (F.read_faults files.new)) }
+        (FailsToReadBlob (F.files files.old) name.now (F.read_faults files.old) (F.read_faults files.new)) }
     ensures reads { OnOk result (F.read_faults files.new ≡ F.read_faults files.old) }
     ensures files { F.files files.new ≡ F.files files.old }
     ensures writes { F.write_faults files.new ≡ F.write_faults files.old }
@@ -54,7 +54,7 @@ pub(crate) fn container_in(file: &[u8]) -> Result<Container<'_>, Fault>
 pub(crate) fn no_container(found: BlobFault) -> Fault
     ensures { result ≡ no_container found }
 {
-    blob_fault(code_of(found))
+    blob_fault(blob_fault_code(found))
 }
 
 /// A fault of a blob as a whole.
@@ -77,8 +77,8 @@ pub(crate) fn blob_fault_at(code: u8, offset: u64) -> Fault
 }
 
 /// The code of what keeps bytes from being a container.
-fn code_of(found: BlobFault) -> u8
-    ensures { result ≡ code_of found }
+fn blob_fault_code(found: BlobFault) -> u8
+    ensures { result ≡ blob_fault_code found }
 {
     match found {
         BlobFault::Truncated => TRUNCATED,

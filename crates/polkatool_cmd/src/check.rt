@@ -9,7 +9,7 @@ ghost use Rattle.polkatool_cmd.specs.Blobs.{TellsText};
 
 use crate::answer::Answer;
 use crate::blob::{blob_fault, blob_fault_at, container_in, read_blob};
-use crate::fault_names::{BAD_TABLE_ENTRY, BAD_TARGET, NO_FIRST, OPEN_END, UNKNOWN_OPCODE};
+use crate::fault_codes::{BAD_TABLE_ENTRY, BAD_TARGET, NO_FIRST, OPEN_END, UNKNOWN_OPCODE};
 use blob_check::{CheckFault, check};
 use blob_codec::Container;
 use elf_objects::Fault;

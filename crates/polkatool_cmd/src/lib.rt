@@ -1,9 +1,10 @@
 //! The top call: a list of words, a folder and two sinks give a status.
 //!
-//! `specs/Commands.antt` says which words are a command and `specs/LinkWords.antt` which are a link, `specs/Faults.antt` which
-//! files are too large, `specs/BlobFaults.antt` why what a file holds is no container, `specs/RunFaults.antt` and
-//! `specs/CheckFaults.antt` why a container isn't run or is no checked one, and `specs/Answers.antt` and
-//! `specs/LinkAnswers.antt` what a command comes to and how that is told. Why objects aren't linked says `link_core`.
+//! `specs/Commands.antt` says which words are a command, `specs/LinkWords.antt` which are a link and `specs/RunWords.antt`
+//! which are a run, `specs/Faults.antt` which files are too large, `specs/BlobFaults.antt` why what a file holds is no
+//! container, `specs/RunFaults.antt` and `specs/CheckFaults.antt` why a container isn't run or is no checked one, and
+//! `specs/Answers.antt` and `specs/LinkAnswers.antt` what a command comes to and how that is told. Why objects aren't
+//! linked says `link_core`.
 #![tactic(auto)]
 
 ghost use Rattle.polkatool_cmd.specs.Commands.{command_of};
@@ -18,7 +19,11 @@ mod check;
 mod command;
 mod commands;
 mod disassemble;
+mod fault_codes;
 mod fault_names;
+#[cfg(test)]
+mod fault_names_tests;
+mod items;
 mod link_command;
 mod link_objects;
 mod link_words;

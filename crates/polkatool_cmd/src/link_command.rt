@@ -1,9 +1,10 @@
 //! A link, as the words ask for it. It lends the words.
 
 ghost use Rattle.std.specs.Prelude.{◌<◌, ◌^◌, IsTrue};
-ghost use Rattle.polkatool_cmd.specs.LinkWords.{items, is_link};
+ghost use Rattle.polkatool_cmd.specs.Items.{items};
+ghost use Rattle.polkatool_cmd.specs.LinkWords.{is_link};
 
-use crate::link_words::first_item;
+use crate::items::first_item;
 use outside::Bytes;
 use std::alloc::{AllocError, Global};
 use symbols::Wanted;
@@ -33,7 +34,7 @@ impl<'a> LinkCommand<'a> {
         let mut objects = Vec::new(alloc);
         let mut rest = self.words;
         while let Some((item, behind)) = first_item(rest) {
-            if let Some(object) = item.object() {
+            if let Some(object) = item.file() {
                 objects.push(object)?;
             }
             rest = behind;

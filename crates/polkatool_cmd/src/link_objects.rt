@@ -1,17 +1,17 @@
 //! The command `link`: the objects' files are read in order, linked, and the container and the map are written.
 
-ghost use Rattle.std.specs.Prelude.{◌≡◌, ◌≤◌, ◌^◌, ◌+◌, ℕ, List, length, map, Some, None, OnOk, MatchResult};
+ghost use Rattle.std.specs.Prelude.{◌≡◌, ◌≤◌, length, map, Some, OnOk, MatchResult};
 ghost use Rattle.outside.specs.Outside.{KeepsOthers};
 ghost use Rattle.polkatool_cmd.specs.Commands.{Link};
 ghost use Rattle.polkatool_cmd.specs.LinkRead.{link_in};
 ghost use Rattle.polkatool_cmd.specs.Faults.{file_too_large, limit_of};
-ghost use Rattle.polkatool_cmd.specs.World.{Holds};
+ghost use Rattle.polkatool_cmd.specs.Snapshot.{Holds};
 ghost use Rattle.polkatool_cmd.specs.Answers.{ComesTo};
 ghost use Rattle.polkatool_cmd.specs.LinkAnswers.{LinksFiles};
 ghost use Rattle.polkatool_cmd.specs.Linking.{HasRead, FailsToReadOne, FailsToReadAll, LinksOrFails};
 
 use crate::answer::Answer;
-use crate::fault_names::FILE_TOO_LARGE;
+use crate::fault_codes::FILE_TOO_LARGE;
 use crate::link_command::LinkCommand;
 use elf_objects::Fault;
 use link_core::{Bundle, LinkFault, Linked};

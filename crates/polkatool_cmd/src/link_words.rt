@@ -1,17 +1,20 @@
 //! The words of a link: its options and the names of its objects, in any order.
 
-ghost use Rattle.std.specs.Prelude.{◌≡◌, ◌+◌, ◌^◌, ◌<◌, [], ◌∷◌, length, Some, None, MatchOption, IfSome, if◌then◌else◌};
+ghost use Rattle.std.specs.Prelude.{◌≡◌, ◌^◌, ◌<◌, Some, None, IfSome, if◌then◌else◌};
 ghost use Rattle.std.specs.Prelude.{option_map, option_copied, slice_get};
 ghost use Rattle.std.specs.List.{before_last, after_last, list_all};
 ghost use Rattle.symbols.specs.Wanted.{IsHostNumber};
-ghost use Rattle.polkatool_cmd.specs.LinkWords.{items, value_in, wanted_name, kind_of, import_of, is_equals_sign};
-ghost use Rattle.polkatool_cmd.specs.LinkWords.{output_in, entry_in, import_in, stack_in, object_in, is_of_link};
+ghost use Rattle.polkatool_cmd.specs.LinkWords.{wanted_name, kind_in_value, import_in_value, is_equals_sign};
+ghost use Rattle.polkatool_cmd.specs.LinkWords.{output_in, entry_in, import_in, stack_in, is_of_link};
 ghost use Rattle.polkatool_cmd.specs.LinkWords.{outputs, entries, imports, stacks, objects, is_imported, repeats_import, is_link};
 ghost use Rattle.polkatool_cmd.specs.LinkWords.{link_command_of};
-ghost use Rattle.polkatool_cmd.specs.LinkRead.{item_of, read_import, counts_of, link_in};
+ghost use Rattle.polkatool_cmd.specs.LinkRead.{read_import, counts_of, link_in};
+ghost use Rattle.polkatool_cmd.specs.Items.{items};
+ghost use Rattle.polkatool_cmd.specs.ItemRead.{item_of};
 
+use crate::items::{Item, count_with, first_item};
 use crate::link_command::LinkCommand;
-use crate::values::{begins_with_dash, file, name, number_below};
+use crate::values::{name, number_below};
 use outside::Bytes;
 use symbols::ImportKind;
 
@@ -26,17 +29,6 @@ const MAX_ENTRIES: usize = 1000;
 
 /// The most imports of a link.
 const MAX_IMPORTS: usize = 1000;
-
-/// An item of a command line.
-#[derive(Clone, Copy)]
-pub(crate) enum Item<'a> {
-    /// An option with its value.
-    Setting(&'a [u8], &'a [u8]),
-    /// An option at the end of the line, which has no value.
-    Unvalued(&'a [u8]),
-    /// A word that names a file.
-    File(&'a [u8]),
-}
 
 /// An undefined name that the host stands for.
 #[derive(Clone, Copy)]
@@ -86,7 +78,7 @@ fn is_link(words: &[Bytes]) -> bool
 }
 
 /// How many items of each kind words have. None where one is not of a link.
-#[tactic(auto, using(crate::proofs::LinkItems::kind_within))]
+#[tactic(auto, using(crate::proofs::ItemsLemmas::kind_within))]
 fn item_counts(words: &[Bytes]) -> Option<Counts>
     ensures { result ≡ (if list_all is_of_link (items words.now) then Some (counts_of (items words.now)) else None) }
 {
@@ -106,18 +98,10 @@ fn item_counts(words: &[Bytes]) -> Option<Counts>
         counts.entries = count_with(counts.entries, item.entry().is_some());
         counts.imports = count_with(counts.imports, item.import().is_some());
         counts.stacks = count_with(counts.stacks, item.stack().is_some());
-        counts.objects = count_with(counts.objects, item.object().is_some());
+        counts.objects = count_with(counts.objects, item.file().is_some());
         rest = behind;
     }
     Some(counts)
-}
-
-/// A count, with one more where that was found.
-fn count_with(count: usize, found: bool) -> usize
-    requires { count < usize.MAX }
-    ensures { result ≡ (if found then count + 1 else count) }
-{
-    if found { count + 1 } else { count }
 }
 
 /// The name of the first output.
@@ -181,24 +165,6 @@ fn is_imported(name: &[u8], words: &[Bytes]) -> bool
     false
 }
 
-/// The first item of words, and the words behind it.
-pub(crate) fn first_item(words: &[Bytes]) -> Option<(Item<'_>, &[Bytes])>
-    ensures cut { MatchOption result
-        (items words.now ≡ [])
-        (λ found. items words.now ≡ item_of found.0 ∷ items found.1.now) }
-    ensures shorter { IfSome result (λ found. length found.1.now < length words.now) }
-{
-    let (word, rest) = words.split_first()?;
-    let word = word.as_slice();
-    if !begins_with_dash(word) {
-        return Some((Item::File(word), rest));
-    }
-    match rest.split_first() {
-        Some((value, behind)) => Some((Item::Setting(word, value.as_slice()), behind)),
-        None => Some((Item::Unvalued(word), rest)),
-    }
-}
-
 impl<'a> Item<'a> {
     /// Whether the item is an output, an entry, an import, a stack or an object.
     fn is_of_link(&self) -> bool
@@ -208,7 +174,7 @@ impl<'a> Item<'a> {
             || self.entry().is_some()
             || self.import().is_some()
             || self.stack().is_some()
-            || self.object().is_some()
+            || self.file().is_some()
     }
 
     /// The name of the output's file.
@@ -230,7 +196,7 @@ impl<'a> Item<'a> {
         ensures import { option_map read_import result ≡ import_in (item_of self.now) }
         ensures number { IfSome result (λ import. IsHostNumber import.kind) }
     {
-        import_of(self.value(b"-i")?)
+        import_in_value(self.value(b"-i")?)
     }
 
     /// How many bytes the stack has.
@@ -240,37 +206,17 @@ impl<'a> Item<'a> {
     {
         number_below(self.value(b"--stack")?, 1 << 24)
     }
-
-    /// The name of an object's file.
-    pub(crate) fn object(&self) -> Option<&'a str>
-        ensures { option_copied result ≡ object_in (item_of self.now) }
-    {
-        match *self {
-            Item::File(word) => file(word),
-            _ => None,
-        }
-    }
-
-    /// The value that the item gives this option.
-    fn value(&self, option: &[u8]) -> Option<&'a [u8]>
-        ensures { option_copied result ≡ value_in option.now (item_of self.now) }
-    {
-        match *self {
-            Item::Setting(name, value) if name == option => Some(value),
-            _ => None,
-        }
-    }
 }
 
 /// The import that NAME=NUMBER or NAME=sbrk spells, where NAME ends at the last '='.
-fn import_of(value: &[u8]) -> Option<Import<'_>>
-    ensures import { option_map read_import result ≡ import_of value.now }
+fn import_in_value(value: &[u8]) -> Option<Import<'_>>
+    ensures import { option_map read_import result ≡ import_in_value value.now }
     ensures number { IfSome result (λ import. IsHostNumber import.kind) }
 {
     let (name, kind) = split_at_last_equals_sign(value);
     Some(Import {
         name: wanted_name(name)?,
-        kind: kind_of(kind)?,
+        kind: kind_in_value(kind)?,
     })
 }
 
@@ -297,8 +243,8 @@ fn wanted_name(word: &[u8]) -> Option<&[u8]>
 }
 
 /// What an import stands for.
-fn kind_of(word: &[u8]) -> Option<ImportKind>
-    ensures kind { result ≡ kind_of word.now }
+fn kind_in_value(word: &[u8]) -> Option<ImportKind>
+    ensures kind { result ≡ kind_in_value word.now }
     ensures number { IfSome result IsHostNumber }
 {
     if word == b"sbrk".as_slice() {

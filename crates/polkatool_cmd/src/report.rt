@@ -2,7 +2,7 @@
 
 ghost use Rattle.std.specs.Prelude.{◌≡◌, ◌+◌, ◌≤◌, ◌++◌, length};
 ghost use Rattle.arrayvec.specs.ArrayString.{array_string_len};
-ghost use Rattle.polkatool_cmd.specs.Lines.{field, refused_line as refused_line_of};
+ghost use Rattle.polkatool_cmd.specs.Lines.{number_field, refused_line as refused_line_of};
 ghost use Rattle.polkatool_cmd.specs.Answers.{Puts, Reports};
 
 use crate::answer::Answer;
@@ -83,7 +83,7 @@ fn refused_line(fault: &Fault) -> ArrayString<LINE_LEN>
 /// Adds a label and a number in decimal to a line.
 pub(crate) fn push_field(label: &str, number: u64, line: &mut ArrayString<LINE_LEN>)
     requires { array_string_len line.old + length label.now + NUMBER_LEN ≤ LINE_LEN }
-    ensures text { line.new.bytes ≡ line.old.bytes ++ field label.now number }
+    ensures text { line.new.bytes ≡ line.old.bytes ++ number_field label.now number }
     ensures len { array_string_len line.new ≤ array_string_len line.old + length label.now + NUMBER_LEN }
 {
     let mut digits = Buffer::new();

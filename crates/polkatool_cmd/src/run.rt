@@ -7,16 +7,17 @@ ghost use Rattle.outside.specs.Outside.{AppendsFront, HasCause};
 ghost use Rattle.pvm_machine.specs.Stepped.{IsGivenSoFar};
 ghost use Rattle.pvm_machine.specs.Ran.{last_answer, run_of};
 ghost use Rattle.disasm.specs.Digits.{hex, hex_digits};
-ghost use Rattle.polkatool_cmd.specs.Commands.{Run, run_in};
+ghost use Rattle.polkatool_cmd.specs.Commands.{Run};
+ghost use Rattle.polkatool_cmd.specs.RunRead.{run_in};
 ghost use Rattle.polkatool_cmd.specs.Transcript.{end_line, gas_line};
 ghost use Rattle.polkatool_cmd.specs.Statuses.{status_of};
 ghost use Rattle.polkatool_cmd.specs.Answers.{ComesTo};
-ghost use Rattle.polkatool_cmd.specs.Running.{Starts, FailsToStart, Tells, EndsAs, end_of};
+ghost use Rattle.polkatool_cmd.specs.Running.{Starts, FailsToStart, Tells, EndsAs, end_of_exit};
 
 use crate::answer::Answer;
 use crate::blob::{blob_fault, read_blob};
 use crate::commands::RunCommand;
-use crate::fault_names::{ARGUMENT_TOO_LARGE, BAD_ENTRY};
+use crate::fault_codes::{ARGUMENT_TOO_LARGE, BAD_ENTRY};
 use crate::output::{put_bytes, put_range};
 use crate::report::push_field;
 use crate::run_fault::{RunFault, unbuilt_form};
@@ -110,11 +111,11 @@ fn finish<O: Sink>(machine: &mut Machine<'_>, out: &mut O) -> Answer
 #[tactic(auto, unfolding(crate::specs::Transcript::end_line))]
 fn put_end<O: Sink>(machine: &Machine<'_>, exit: Exit, out: &mut O) -> Result<Answer, Failed>
     requires { IsGivenSoFar (last_answer exit) }
-    ensures ends { IfOk result (λ answer. EndsAs answer (status_of (end_of exit machine.now.state))) }
+    ensures ends { IfOk result (λ answer. EndsAs answer (status_of (end_of_exit exit machine.now.state))) }
     ensures ok { OnOk result
-        (Appends (O.bytes out.old) (O.bytes out.new) (end_line (end_of exit machine.now.state))) }
+        (Appends (O.bytes out.old) (O.bytes out.new) (end_line (end_of_exit exit machine.now.state))) }
     ensures err { OnErr result
-        (AppendsFront (O.bytes out.old) (O.bytes out.new) (end_line (end_of exit machine.now.state))) }
+        (AppendsFront (O.bytes out.old) (O.bytes out.new) (end_line (end_of_exit exit machine.now.state))) }
     ensures cause { HasCause (O.faults out.old) (O.faults out.new) result }
 {
     match exit {

@@ -1,127 +1,145 @@
 //! The words of a run: its options in any order, and a blob.
 
-ghost use Rattle.std.specs.Prelude.{◌≡◌, Some};
-ghost use Rattle.std.specs.Option.{option_map};
-ghost use Rattle.polkatool_cmd.specs.Commands.{words_in, no_words, with_entry, with_gas, with_argument, with_option, with_file};
-ghost use Rattle.polkatool_cmd.specs.Commands.{run_words, run_of, command_in};
+ghost use Rattle.std.specs.Prelude.{◌≡◌, Some, None, if◌then◌else◌, option_map};
+ghost use Rattle.std.specs.List.{list_all};
+ghost use Rattle.polkatool_cmd.specs.Items.{items};
+ghost use Rattle.polkatool_cmd.specs.ItemRead.{item_of};
+ghost use Rattle.polkatool_cmd.specs.RunWords.{run_entry_in, gas_in, argument_in, is_of_run, is_run, run_command_of};
+ghost use Rattle.polkatool_cmd.specs.RunRead.{argument_bytes, run_counts_of, AreFirst, run_in};
 
 use crate::argument::Argument;
-use crate::commands::{Command, RunCommand};
-use crate::values::{begins_with_dash, file, number, small_number};
+use crate::commands::RunCommand;
+use crate::items::{Item, count_with, first_item};
+use crate::values::{number, small_number};
 use outside::Bytes;
 
-/// The entry of a run, where the words name none.
+/// The entry of a run by default.
 const DEFAULT_ENTRY: u32 = 0;
 
-/// The gas of a run, where the words name none.
+/// The gas of a run by default.
 const DEFAULT_GAS: u64 = 10_000_000;
 
-/// What words of a run have named so far.
+/// How many items of each kind there are.
 #[derive(Clone, Copy)]
-pub(crate) struct RunWords<'a> {
+pub(crate) struct RunCounts {
+    pub entries: usize,
+    pub gas_amounts: usize,
+    pub arguments: usize,
+    pub blobs: usize,
+}
+
+/// The first value of each kind.
+#[derive(Clone, Copy)]
+pub(crate) struct RunValues<'a> {
     pub entry: Option<u32>,
     pub gas: Option<u64>,
     pub argument: Option<Argument<'a>>,
     pub blob: Option<&'a str>,
 }
 
-/// The run that the words behind the verb name. None where they are faulty.
-pub(crate) fn run_of(words: &[Bytes]) -> Option<Command<'_>>
-    ensures { option_map command_in result ≡ run_of (run_words (Some no_words) words.now) }
+/// The run that the words after the verb ask for. None is a usage error. It takes no memory.
+pub(crate) fn run_command(words: &[Bytes]) -> Option<RunCommand<'_>>
+    ensures { option_map run_in result ≡ run_command_of words.now }
 {
-    command(&read(words)?)
+    if !is_run(words) {
+        return None;
+    }
+    let values = first_values(words);
+    Some(RunCommand {
+        entry: values.entry.unwrap_or(DEFAULT_ENTRY),
+        gas: values.gas.unwrap_or(DEFAULT_GAS),
+        argument: values.argument.unwrap_or(Argument::empty()),
+        blob: values.blob?,
+    })
 }
 
-/// What words name, from left to right. None where one of them is faulty.
-fn read(words: &[Bytes]) -> Option<RunWords<'_>>
-    ensures { option_map words_in result ≡ run_words (Some no_words) words.now }
+/// Whether words are a run.
+fn is_run(words: &[Bytes]) -> bool
+    ensures { result ≡ is_run (items words.now) }
 {
-    let mut named = RunWords {
+    let Some(counts) = run_counts(words) else {
+        return false;
+    };
+    counts.blobs == 1 && counts.entries <= 1 && counts.gas_amounts <= 1 && counts.arguments <= 1
+}
+
+/// How many items of each kind words have. None where an item is not of a run.
+#[tactic(auto, using(crate::proofs::ItemsLemmas::kind_within))]
+fn run_counts(words: &[Bytes]) -> Option<RunCounts>
+    ensures { result ≡ (if list_all is_of_run (items words.now) then Some (run_counts_of (items words.now)) else None) }
+{
+    let mut counts = RunCounts {
+        entries: 0,
+        gas_amounts: 0,
+        arguments: 0,
+        blobs: 0,
+    };
+    let mut rest = words;
+    while let Some((item, behind)) = first_item(rest) {
+        if !item.is_of_run() {
+            return None;
+        }
+        counts.entries = count_with(counts.entries, item.run_entry().is_some());
+        counts.gas_amounts = count_with(counts.gas_amounts, item.gas().is_some());
+        counts.arguments = count_with(counts.arguments, item.argument().is_some());
+        counts.blobs = count_with(counts.blobs, item.file().is_some());
+        rest = behind;
+    }
+    Some(counts)
+}
+
+/// The first value of each kind that words name.
+fn first_values(words: &[Bytes]) -> RunValues<'_>
+    ensures { AreFirst (items words.now) result }
+{
+    let mut values = RunValues {
         entry: None,
         gas: None,
         argument: None,
         blob: None,
     };
     let mut rest = words;
-    while let Some((word, after)) = rest.split_first() {
-        if begins_with_dash(word.as_slice()) {
-            let (value, behind) = after.split_first()?;
-            named = named.with_option(word.as_slice(), value.as_slice())?;
-            rest = behind;
-        } else {
-            named = named.with_file(word.as_slice())?;
-            rest = after;
-        }
+    while let Some((item, behind)) = first_item(rest) {
+        values = RunValues {
+            entry: values.entry.or(item.run_entry()),
+            gas: values.gas.or(item.gas()),
+            argument: values.argument.or(item.argument()),
+            blob: values.blob.or(item.file()),
+        };
+        rest = behind;
     }
-    Some(named)
+    values
 }
 
-/// The run of what the words named, where they named a blob.
-fn command<'a>(words: &RunWords<'a>) -> Option<Command<'a>>
-    ensures { option_map command_in result ≡ run_of (Some (words_in words.now)) }
-{
-    let blob = words.blob?;
-    Some(Command::Run(RunCommand {
-        entry: words.entry.unwrap_or(DEFAULT_ENTRY),
-        gas: words.gas.unwrap_or(DEFAULT_GAS),
-        argument: words.argument.unwrap_or(Argument::empty()),
-        blob,
-    }))
-}
-
-impl<'a> RunWords<'a> {
-    /// With an option and its value. None where it is no option of a run, is repeated, or has another value.
-    fn with_option(&self, option: &[u8], value: &'a [u8]) -> Option<RunWords<'a>>
-        ensures { option_map words_in result ≡ with_option (words_in self.now) option.now value.now }
+impl<'a> Item<'a> {
+    /// Whether the item is an entry, gas, an argument or a blob.
+    fn is_of_run(&self) -> bool
+        ensures { result ≡ is_of_run (item_of self.now) }
     {
-        if option == b"--entry".as_slice() {
-            self.with_entry(value)
-        } else if option == b"--gas".as_slice() {
-            self.with_gas(value)
-        } else if option == b"--arg".as_slice() {
-            self.with_argument(value)
-        } else {
-            None
-        }
+        self.run_entry().is_some()
+            || self.gas().is_some()
+            || self.argument().is_some()
+            || self.file().is_some()
     }
 
-    fn with_entry(&self, value: &[u8]) -> Option<RunWords<'a>>
-        ensures { option_map words_in result ≡ with_entry (words_in self.now) value.now }
+    /// The entry of a run.
+    fn run_entry(&self) -> Option<u32>
+        ensures { result ≡ run_entry_in (item_of self.now) }
     {
-        if self.entry.is_some() {
-            return None;
-        }
-        let entry = Some(small_number(value)?);
-        Some(RunWords { entry, ..*self })
+        small_number(self.value(b"--entry")?)
     }
 
-    fn with_gas(&self, value: &[u8]) -> Option<RunWords<'a>>
-        ensures { option_map words_in result ≡ with_gas (words_in self.now) value.now }
+    /// The gas of a run.
+    fn gas(&self) -> Option<u64>
+        ensures { result ≡ gas_in (item_of self.now) }
     {
-        if self.gas.is_some() {
-            return None;
-        }
-        let gas = Some(number(value)?);
-        Some(RunWords { gas, ..*self })
+        number(self.value(b"--gas")?)
     }
 
-    fn with_argument(&self, value: &'a [u8]) -> Option<RunWords<'a>>
-        ensures { option_map words_in result ≡ with_argument (words_in self.now) value.now }
+    /// The argument of a run.
+    fn argument(&self) -> Option<Argument<'a>>
+        ensures { option_map argument_bytes result ≡ argument_in (item_of self.now) }
     {
-        if self.argument.is_some() {
-            return None;
-        }
-        let argument = Some(Argument::read(value)?);
-        Some(RunWords { argument, ..*self })
-    }
-
-    fn with_file(&self, word: &'a [u8]) -> Option<RunWords<'a>>
-        ensures { option_map words_in result ≡ with_file (words_in self.now) word.now }
-    {
-        if self.blob.is_some() {
-            return None;
-        }
-        let blob = Some(file(word)?);
-        Some(RunWords { blob, ..*self })
+        Argument::read(self.value(b"--arg")?)
     }
 }

@@ -1,5 +1,5 @@
 ghost use Rattle.std.specs.Prelude.{◌≡◌};
-ghost use Rattle.polkatool_cmd.specs.Statuses.{number_of};
+ghost use Rattle.polkatool_cmd.specs.Statuses.{status_number};
 
 /// How a command ended.
 #[derive(Clone, Copy, Debug, PartialEq, Eq)]
@@ -29,7 +29,7 @@ pub enum Status {
 impl Status {
     /// The exit status of the process: 0 for `Done`, and so on in the order of the variants.
     pub fn number(self) -> u8
-        ensures { result ≡ number_of self }
+        ensures { result ≡ status_number self }
     {
         self as u8
     }

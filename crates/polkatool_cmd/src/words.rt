@@ -4,7 +4,7 @@ ghost use Rattle.polkatool_cmd.specs.Commands.{command_of, command_in, blob_of};
 
 use crate::commands::Command;
 use crate::link_words::link_command;
-use crate::run_words::run_of;
+use crate::run_words::run_command;
 use crate::values::file;
 use outside::Bytes;
 use std::alloc::{AllocError, Global};
@@ -62,7 +62,7 @@ pub(crate) fn command_of(words: &Words) -> Option<Command<'_>>
     if verb.as_slice() == b"link".as_slice() {
         Some(Command::Link(link_command(rest)?))
     } else if verb.as_slice() == b"run".as_slice() {
-        run_of(rest)
+        Some(Command::Run(run_command(rest)?))
     } else if verb.as_slice() == b"check".as_slice() {
         Some(Command::Check(blob_of(rest)?))
     } else if verb.as_slice() == b"disassemble".as_slice() {

@@ -3,7 +3,8 @@ use blob_codec::Container;
 use pvm_machine::{Exit, Machine};
 use runs::{
     block_is_carried, blocks_begin_at_marks, code_agrees, end_stays, gas_is_counted,
-    gas_is_paid_in_turn, jumps_keep_their_entry, laid_runs_the_same, stretches_agree,
+    gas_is_paid_in_turn, groups_begin, jumps_keep_their_entry, laid_runs_the_same, stretches_agree,
+    world_is_cut, world_is_laid,
 };
 use std::test::*;
 
@@ -35,4 +36,7 @@ fn laws_of_all_machines_are_there() {
     code_agrees();
     jumps_keep_their_entry();
     blocks_begin_at_marks();
+    groups_begin();
+    world_is_laid();
+    world_is_cut();
 }

@@ -1,5 +1,4 @@
-use Rattle.std.proofs.Common.{rules, ◌≡◌, inr}
-use Rattle.polkatool_cmd.specs.LinkAnswers.{FailedPut}
+use Rattle.std.proofs.Common.{rules, inr}
 use Rattle.polkatool_cmd.proofs.link_objects.link.Goals as goal
 
 pub returns-clause-comes : goal.returns-clause-comes

@@ -1,6 +1,7 @@
 use Rattle.std.proofs.Common.{◌≡◌, length}
 use Rattle.std.specs.List.{slice_get}
-use Rattle.polkatool_cmd.specs.LinkWords.{items, outputs}
+use Rattle.polkatool_cmd.specs.Items.{items}
+use Rattle.polkatool_cmd.specs.LinkWords.{outputs}
 use Rattle.polkatool_cmd.proofs.link_words.first_output.Given as goal
 
 abbrev pub invariant-loop-item : goal.invariant-loop-item

@@ -1,5 +1,6 @@
 use Rattle.std.proofs.Common.{◌≡◌, length}
-use Rattle.polkatool_cmd.specs.LinkWords.{items, imports, is_imported}
+use Rattle.polkatool_cmd.specs.Items.{items}
+use Rattle.polkatool_cmd.specs.LinkWords.{imports, is_imported}
 use Rattle.polkatool_cmd.proofs.link_words.is_imported.Given as goal
 
 abbrev pub invariant-loop-item : goal.invariant-loop-item

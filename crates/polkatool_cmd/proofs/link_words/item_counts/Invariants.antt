@@ -1,6 +1,7 @@
 use Rattle.std.proofs.Common.{◌≡◌, ◌+◌, length}
 use Rattle.std.specs.List.{list_all}
-use Rattle.polkatool_cmd.specs.LinkWords.{items, is_of_link, outputs, entries, imports, stacks, objects}
+use Rattle.polkatool_cmd.specs.Items.{items}
+use Rattle.polkatool_cmd.specs.LinkWords.{is_of_link, outputs, entries, imports, stacks, objects}
 use Rattle.polkatool_cmd.proofs.link_words.item_counts.Given as goal
 
 abbrev pub invariant-loop-item : goal.invariant-loop-item

@@ -2,7 +2,7 @@ use Rattle.std.proofs.Common.{sym, subst}
 use Rattle.std.specs.Io.KnownBytes.{Appends}
 use Rattle.outside.specs.Outside.{AppendsFront}
 use Rattle.std.proofs.lemmas.Result.{err_from_is_err_and}
-use Rattle.polkatool_cmd.proofs.Lines.{end_line-halt, end_line-fault, end_line-out_of_gas}
+use Rattle.polkatool_cmd.proofs.Lines.{end_line-halt, end_line-out_of_gas}
 use Rattle.polkatool_cmd.proofs.run.put_end.Goals as goal
 
 pub returns-in_err-put_halt-in-Halt-clause-err : goal.returns-in_err-put_halt-in-Halt-clause-err

@@ -1,8 +1,8 @@
 use Rattle.std.proofs.Common.{rules, sym, ap, subst}
 use Rattle.pvm_machine.specs.Ran.{run_of}
 use Rattle.polkatool_cmd.specs.Answers.{HoldsRun}
-use Rattle.polkatool_cmd.specs.Commands.{run_in}
-use Rattle.polkatool_cmd.specs.World.{Holds}
+use Rattle.polkatool_cmd.specs.RunRead.{run_in}
+use Rattle.polkatool_cmd.specs.Snapshot.{Holds}
 use Rattle.polkatool_cmd.proofs.Answering.{RunComesTo-told}
 use Rattle.polkatool_cmd.proofs.Blobs.{RunComesTo-unread}
 use Rattle.polkatool_cmd.proofs.run.run.Goals as goal

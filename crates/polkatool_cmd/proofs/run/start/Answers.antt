@@ -1,6 +1,6 @@
 use Rattle.std.proofs.Common.{◌≡◌, sym, ap, ◌∙◌}
 use Rattle.pvm_machine.specs.Started.{started}
-use Rattle.polkatool_cmd.specs.Commands.{run_in}
+use Rattle.polkatool_cmd.specs.RunRead.{run_in}
 use Rattle.polkatool_cmd.proofs.RunFaults.{first_run_fault-none}
 use Rattle.polkatool_cmd.proofs.run.start.Goals as goal
 

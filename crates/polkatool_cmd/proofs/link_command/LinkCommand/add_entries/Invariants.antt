@@ -1,5 +1,6 @@
 use Rattle.std.proofs.Common.{◌≡◌, ◌++◌, length}
-use Rattle.polkatool_cmd.specs.LinkWords.{items, entries}
+use Rattle.polkatool_cmd.specs.Items.{items}
+use Rattle.polkatool_cmd.specs.LinkWords.{entries}
 use Rattle.polkatool_cmd.proofs.link_command.LinkCommand.add_entries.Given as goal
 
 abbrev pub invariant-loop-item : goal.invariant-loop-item

@@ -1,7 +1,8 @@
 use Rattle.std.proofs.Common.{◌≡◌, ◌∷◌, ◌++◌, arith}
 use Rattle.std.proofs.lemmas.Grind.{common_steps}
 use Rattle.polkatool_cmd.specs.LinkRead.{read_import}
-use Rattle.polkatool_cmd.specs.LinkWords.{items, imports}
+use Rattle.polkatool_cmd.specs.Items.{items}
+use Rattle.polkatool_cmd.specs.LinkWords.{imports}
 use Rattle.polkatool_cmd.proofs.Importing.{repeats_import-link, import_of-next}
 use Rattle.polkatool_cmd.proofs.link_command.LinkCommand.add_imports.Goals as goal
 

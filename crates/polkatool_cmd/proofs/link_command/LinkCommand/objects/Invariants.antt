@@ -1,5 +1,6 @@
 use Rattle.std.proofs.Common.{◌≡◌, ◌++◌, length, map}
-use Rattle.polkatool_cmd.specs.LinkWords.{items, objects}
+use Rattle.polkatool_cmd.specs.Items.{items}
+use Rattle.polkatool_cmd.specs.LinkWords.{objects}
 use Rattle.polkatool_cmd.proofs.link_command.LinkCommand.objects.Given as goal
 
 abbrev pub invariant-loop-item : goal.invariant-loop-item

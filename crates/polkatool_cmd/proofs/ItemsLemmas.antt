@@ -2,7 +2,7 @@
 use Rattle.std.proofs.Common.{◌≡◌, ℕ, ◌≤◌, List, [], ◌∷◌, length, true, false, cond, Option, Some, None, refl, ap, ◌∙◌, arith}
 use Rattle.std.specs.List.{filter_map, cons_option}
 use Rattle.polkatool_cmd.specs.Values.{begins_with_dash}
-use Rattle.polkatool_cmd.specs.LinkWords.{Item, Setting, Unvalued, File, items}
+use Rattle.polkatool_cmd.specs.Items.{Item, Setting, Unvalued, File, items}
 
 -- no words
 pub items-end : (words : List (List ℕ)) → length words ≡ 0 → items words ≡ []

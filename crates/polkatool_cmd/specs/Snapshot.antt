@@ -4,7 +4,7 @@ use Rattle.outside.specs.Outside.{Files, Rose, Missing, AnswersWrite}
 use Rattle.elf_objects.specs.declared.fault.Fault.{Fault}
 
 -- What the folder and out tell, and how many reads, writes and puts the outside has failed.
-pub record World : Type 0 where
+pub record Snapshot : Type 0 where
   pub files : Option Files
   pub reads : ℕ
   pub writes : ℕ
@@ -28,7 +28,7 @@ pub record HasFault (first_of : List ℕ → Option Fault) (files : Option Files
   pub first : first_of file ≡ fault
 
 -- The name of the file to read is missing or its read failed; all else is as before.
-pub record FailedRead (name : List ℕ) (old new : World) : Type 0 where
+pub record FailedRead (name : List ℕ) (old new : Snapshot) : Type 0 where
   pub later : old.reads ≤ new.reads
   pub cause : Rose old.reads new.reads ⊎ Missing old.files name
   pub others : new ≡ record old { reads = new.reads }

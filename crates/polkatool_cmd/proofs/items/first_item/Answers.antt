@@ -1,7 +1,7 @@
 use Rattle.std.proofs.Common.{sym, ap, ◌∙◌}
 use Rattle.polkatool_cmd.specs.Values.{begins_with_dash}
-use Rattle.polkatool_cmd.proofs.LinkItems.{items-end, items-file, items-unvalued, items-setting}
-use Rattle.polkatool_cmd.proofs.link_words.first_item.Goals as goal
+use Rattle.polkatool_cmd.proofs.ItemsLemmas.{items-end, items-file, items-unvalued, items-setting}
+use Rattle.polkatool_cmd.proofs.items.first_item.Goals as goal
 
 pub returns-in_err-word-clause-cut : goal.returns-in_err-word-clause-cut
 returns-in_err-word-clause-cut c = rw c.from_residual.ensures (items-end _ c.in_err-word.ensures.cases)

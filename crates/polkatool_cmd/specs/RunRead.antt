@@ -1,0 +1,34 @@
+-- What the values stand for that are read from the words of a run.
+use Rattle.std.specs.Prelude.{◌≡◌, ℕ, List, length, option_map, slice_get}
+use Rattle.std.specs.Option.{option_copied}
+use Rattle.polkatool_cmd.specs.Items.{Item}
+use Rattle.polkatool_cmd.specs.RunWords.{RunCommand, run_entries, gas_amounts, arguments, blobs}
+use Rattle.polkatool_cmd.specs.Values.{spelled_bytes}
+use Rattle.polkatool_cmd.specs.declared.argument.Argument.{Argument}
+use Rattle.polkatool_cmd.specs.declared.commands.RunCommand.{RunCommand as Asked}
+use Rattle.polkatool_cmd.specs.declared.run_words.RunCounts.{RunCounts}
+use Rattle.polkatool_cmd.specs.declared.run_words.RunValues.{RunValues}
+
+-- the argument that digits spell
+abbrev pub argument_bytes : Argument → List ℕ
+argument_bytes a = spelled_bytes a.digits.now
+
+-- how many items of each kind there are
+abbrev pub run_counts_of : List Item → RunCounts
+run_counts_of found = record {
+  entries = length (run_entries found);
+  gas_amounts = length (gas_amounts found);
+  arguments = length (arguments found);
+  blobs = length (blobs found);
+}
+
+-- the values are the first of each kind
+pub record AreFirst (found : List Item) (values : RunValues) : Type 0 where
+  pub entry : values.entry ≡ slice_get (run_entries found) 0
+  pub gas : values.gas ≡ slice_get (gas_amounts found) 0
+  pub argument : option_map argument_bytes values.argument ≡ slice_get (arguments found) 0
+  pub blob : option_copied values.blob ≡ slice_get (blobs found) 0
+
+-- the run that was asked for
+abbrev pub run_in : Asked → RunCommand
+run_in c = record { entry = c.entry; gas = c.gas; argument = argument_bytes c.argument; blob = c.blob.now }
