@@ -51,15 +51,18 @@ struct Import {
 }
 
 impl Model for Import {
-    ghost use Rattle.symbols.specs.Wanted.{Import as TheImport};
+    ghost use Rattle.symbols.specs.Wanted.{Import as TheImport, IsHostNumber};
 
     ghost Value = { TheImport };
 
     ghost view = { λ i. record { name = i.name; kind = i.kind } };
+
+    ghost invariant = { λ i. IsHostNumber i.kind };
 }
 
 impl Import {
     fn new(name: Name, kind: ImportKind) -> Import
+        requires { IsHostNumber kind }
         ensures { result ≡ record { name = name; kind = kind } }
     {
         Import { name, kind }
@@ -72,7 +75,8 @@ impl Import {
     }
 
     fn kind(&self) -> ImportKind
-        ensures { result ≡ self.now.kind }
+        ensures kind { result ≡ self.now.kind }
+        ensures number { IsHostNumber result }
     {
         self.kind
     }
@@ -183,7 +187,8 @@ impl Wanted {
     /// What an import is, by its number, from 0.
     pub fn import_kind(&self, at: u32) -> ImportKind
         requires { at < length self.now.imports }
-        ensures { IsSomeAnd (slice_get self.now.imports at) (λ import. result ≡ import.kind) }
+        ensures kind { IsSomeAnd (slice_get self.now.imports at) (λ import. result ≡ import.kind) }
+        ensures number { IsHostNumber result }
     {
         self.imports[at as usize].kind()
     }
