@@ -3,6 +3,8 @@ use Rattle.std.proofs.Common.{◌≡◌, ℕ, List, [], length, take, slice_get,
 use Rattle.elf_objects.specs.declared.parts.SectionKind.{SectionKind}
 use Rattle.elf_objects.specs.declared.parts.SectionKind.TheVariants as kinds
 use Rattle.elf_objects.specs.Objects.{Section}
+use Rattle.symbols.specs.declared.place.Place.{Place}
+use Rattle.layout.specs.Slots.{slot_places}
 use Rattle.symbols.specs.Parts.{object_at}
 use Rattle.symbols.specs.Wanted.{Given}
 use Rattle.symbols.proofs.Resolving.{slice_get-values_below}
@@ -16,7 +18,7 @@ use Rattle.layout.specs.declared.parts.Parts.{Parts}
 abbrev ends_before : Given → ℕ → ℕ → Next
 ends_before given o s = behind_sections (behind_objects (starts_of given) (take o given.objects)) (take s (object_at given.objects o).sections)
 
--- behind the sections before it a section has its address
+-- after the sections before it a section has its address
 same_address : (given : Given) (o s : ℕ) → address_at (behind_objects (starts_of given) (take o given.objects)) (object_at given.objects o).sections s ≡ address_of given o s
 same_address given o s = of_found (slice_get (object_at given.objects o).sections s)
   where
@@ -31,10 +33,10 @@ same_address given o s = of_found (slice_get (object_at given.objects o).section
     of_found None = refl
     of_found (Some section) = of_kind section.kind section
 
--- what was measured and computed is where the sections are placed
-pub is_placed : (given : Given) (parts : Parts) (rows : List (List (Option ℕ))) → IsMeasured given parts → rows ≡ addresses_in parts.starts given.objects
-    → IsPlaced given (record { addresses = rows; read_only_len = parts.read_only_len; writable_len = parts.writable_len; zero_pages = parts.zero_pages })
-is_placed given parts rows measured rows_are =
+-- what was measured and computed is where the sections and the slots are placed
+pub is_placed : (given : Given) (parts : Parts) (rows : List (List (Option ℕ))) (slots : List Place) → IsMeasured given parts → rows ≡ addresses_in parts.starts given.objects → slots ≡ slot_places given
+    → IsPlaced given (record { addresses = rows; slots = slots; slots_start = parts.slots_start; read_only_len = parts.read_only_len; writable_len = parts.writable_len; zero_pages = parts.zero_pages })
+is_placed given parts rows slots measured rows_are slots_are =
     let all : rows ≡ addresses_in (starts_of given) given.objects = rows_are ∙ ap (λ starts. addresses_in starts given.objects) measured.starts_are in
     record {
       addresses_are = λ o s o_in s_in.
@@ -43,6 +45,8 @@ is_placed given parts rows measured rows_are =
           ∙ ap (λ row. slice_get (unwrap_or row []) s) (slice_get-values_below (length given.objects) o (addresses_at (starts_of given) given.objects) o_in)
           ∙ slice_get-values_below (length sections) s (address_at (behind_objects (starts_of given) (take o given.objects)) sections) s_in
           ∙ ap Some (same_address given o s);
+      slots_are = slots_are;
+      slots_start_is = measured.slots_start_is;
       read_only_is = measured.read_only_is;
       writable_is = measured.writable_is;
       zero_pages_are = measured.zero_pages_are;

@@ -1,10 +1,10 @@
--- Where sections end: never below where they begin, and behind some of them where the others end that begin there.
-use Rattle.std.proofs.Common.{◌≡◌, ℕ, ◌≤◌, min, Bool, true, false, List, [], ◌∷◌, ◌++◌, take, drop, refl, ◌∙◌, ap, arith, inl, inr}
+-- Where sections end: never below where they begin, and after a prefix of them where the others end that begin there.
+use Rattle.std.proofs.Common.{◌≡◌, ℕ, zero, suc, ◌≤◌, min, Bool, true, false, List, [], ◌∷◌, ◌++◌, take, drop, refl, ◌∙◌, ap, arith, inl, inr}
 use Rattle.std.proofs.lemmas.List.{take-append-drop}
 use Rattle.std.proofs.lemmas.Bool.{cases_lt}
 use Rattle.elf_objects.specs.declared.parts.SectionKind.{SectionKind}
 use Rattle.elf_objects.specs.Objects.{Section, Object}
-use Rattle.layout.specs.Addresses.{aligned, end_if, end_of_sections, end_of_objects}
+use Rattle.layout.specs.Addresses.{aligned, end_of_slots, end_if, end_of_sections, end_of_objects}
 
 pub aligned-behind : (at align : ℕ) → at ≤ aligned at align
 aligned-behind at align = omega arith
@@ -13,7 +13,7 @@ pub end_if-behind : (b : Bool) (at : ℕ) (section : Section) → at ≤ end_if 
 end_if-behind true at section = omega (arith, aligned-behind at section.align)
 end_if-behind false at section = omega arith
 
--- sections end at or behind where they begin
+-- sections end at or after where they begin
 pub end_of_sections-behind : (is_of : SectionKind → Bool) (at : ℕ) (sections : List Section) → at ≤ end_of_sections is_of at sections
 unfolding end_of_sections
 end_of_sections-behind is_of at [] = omega arith
@@ -24,7 +24,7 @@ unfolding end_of_objects
 end_of_objects-behind is_of at [] = omega arith
 end_of_objects-behind is_of at (object ∷ objects) = omega (arith, end_of_sections-behind is_of at object.sections, end_of_objects-behind is_of (end_of_sections is_of at object.sections) objects)
 
--- behind some sections those follow that come after them
+-- the sections of a list are those of a prefix and of the rest
 pub end_of_sections-append : (is_of : SectionKind → Bool) (at : ℕ) (xs ys : List Section) → end_of_sections is_of at (xs ++ ys) ≡ end_of_sections is_of (end_of_sections is_of at xs) ys
 unfolding end_of_sections
 end_of_sections-append is_of at [] ys = refl
@@ -35,14 +35,14 @@ unfolding end_of_objects
 end_of_objects-append is_of at [] ys = refl
 end_of_objects-append is_of at (object ∷ xs) ys = end_of_objects-append is_of (end_of_sections is_of at object.sections) xs ys
 
--- those in front end at or before all of them
-pub end_of_sections-front : (is_of : SectionKind → Bool) (at n : ℕ) (sections : List Section) → end_of_sections is_of at (take n sections) ≤ end_of_sections is_of at sections
-end_of_sections-front is_of at n sections =
+-- a prefix ends at or before all of them
+pub end_of_sections-prefix : (is_of : SectionKind → Bool) (at n : ℕ) (sections : List Section) → end_of_sections is_of at (take n sections) ≤ end_of_sections is_of at sections
+end_of_sections-prefix is_of at n sections =
     let whole = ap (end_of_sections is_of at) (take-append-drop n sections) in
     omega (arith, whole, end_of_sections-append is_of at (take n sections) (drop n sections), end_of_sections-behind is_of (end_of_sections is_of at (take n sections)) (drop n sections))
 
-pub end_of_objects-front : (is_of : SectionKind → Bool) (at n : ℕ) (objects : List Object) → end_of_objects is_of at (take n objects) ≤ end_of_objects is_of at objects
-end_of_objects-front is_of at n objects =
+pub end_of_objects-prefix : (is_of : SectionKind → Bool) (at n : ℕ) (objects : List Object) → end_of_objects is_of at (take n objects) ≤ end_of_objects is_of at objects
+end_of_objects-prefix is_of at n objects =
     let whole = ap (end_of_objects is_of at) (take-append-drop n objects) in
     omega (arith, whole, end_of_objects-append is_of at (take n objects) (drop n objects), end_of_objects-behind is_of (end_of_objects is_of at (take n objects)) (drop n objects))
 
@@ -52,3 +52,12 @@ min-behind limit end behind at = elim (cases_lt at limit) [
   | inl lt ↦ (let e : min at limit ≡ at = omega arith in ap (λ x. min (end x) limit) e)
   | inr ge ↦ (let e : min at limit ≡ limit = omega arith in ap (λ x. min (end x) limit) e ∙ omega (arith, behind limit, behind at))
 ]
+
+-- slots end at or after where they may begin
+pub end_of_slots-behind : (at slots : ℕ) → at ≤ end_of_slots at slots
+end_of_slots-behind at zero = omega arith
+end_of_slots-behind at (suc n) = omega (arith, aligned-behind at 8)
+
+-- and so do those after an end that is kept up to a limit
+pub slots_end-behind : (limit at slots end last : ℕ) → end ≤ limit → last ≡ min (end_of_slots end slots) limit → end ≤ last
+slots_end-behind limit at slots end last le is = omega (arith, is, le, end_of_slots-behind end slots)

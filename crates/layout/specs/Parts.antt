@@ -4,7 +4,7 @@ use Rattle.faults.specs.Present.{first_in}
 use Rattle.elf_objects.specs.declared.fault.Fault.{Fault}
 use Rattle.symbols.specs.Wanted.{Given, kept_objects}
 use Rattle.machine_state.specs.Start.{read_only_start}
-use Rattle.layout.specs.Addresses.{read_only_len, writable_start, writable_end, writable_len, zero_pages}
+use Rattle.layout.specs.Addresses.{slots_start, read_only_len, writable_start, writable_end, writable_len, zero_pages}
 use Rattle.layout.specs.Faults.{layout_faults}
 use Rattle.layout.specs.Steps.{behind_objects, AreAddresses}
 use Rattle.layout.specs.declared.next.Next.{Next}
@@ -14,8 +14,9 @@ use Rattle.layout.specs.declared.parts.Parts.{Parts}
 abbrev pub starts_of : Given → Next
 starts_of given = record { read_only = read_only_start; writable = writable_start given; zero = writable_end given }
 
--- the parts are those of the objects, which have no fault of the layout, so that no section ends behind the last address
+-- the parts are those of the objects, which have no fault of the layout, so that no section ends after the last address
 pub record IsMeasured (given : Given) (parts : Parts) : Type 0 where
+  pub slots_start_is : parts.slots_start ≡ slots_start given
   pub read_only_is : parts.read_only_len ≡ read_only_len given
   pub writable_is : parts.writable_len ≡ writable_len given
   pub zero_pages_are : parts.zero_pages ≡ zero_pages given
@@ -23,5 +24,5 @@ pub record IsMeasured (given : Given) (parts : Parts) : Type 0 where
   pub ends_fit : AreAddresses (behind_objects (starts_of given) (kept_objects given))
   pub no_fault : layout_faults given ≡ []
 
-abbrev pub TellsFault : Given → Fault → Type 0
-TellsFault given fault = first_in (layout_faults given) ≡ Some fault
+abbrev pub ReportsFault : Given → Fault → Type 0
+ReportsFault given fault = first_in (layout_faults given) ≡ Some fault

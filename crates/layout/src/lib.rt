@@ -1,7 +1,7 @@
 //! Where the data of a link's objects are loaded: the addresses of their sections, and how many bytes and pages they take.
 //!
-//! The rule stands in `specs/Addresses.antt` and its faults in `specs/Faults.antt`. `place_all` computes it in one pass
-//! over the sections and answers a `Placed`, which the later parts of the linker ask.
+//! The rule is in `specs/Addresses.antt` and its faults are in `specs/Faults.antt`. `place_all` returns a `Placed`, which the
+//! later parts of the linker read.
 #![tactic(auto)]
 
 ghost use Rattle.layout.specs.Laws.{AlignedIsLeast, ZeroPagesAreLeast};
@@ -12,6 +12,7 @@ mod next;
 mod parts;
 mod placed;
 mod placer;
+mod slots;
 
 pub use ends::bytes_of;
 pub use fault::{
@@ -25,8 +26,8 @@ pub fn aligned_is_least()
     ensures { AlignedIsLeast }
 {}
 
-/// A law of the zero pages: they are the least number that holds the sections of zeros behind the pages of the writable
-/// part. It does nothing.
+/// A law of the zero pages: they are the least number that holds the sections of zeros after the pages of the writable part.
+/// It does nothing.
 pub fn zero_pages_are_least()
     ensures { ZeroPagesAreLeast }
 {}

@@ -1,13 +1,15 @@
-ghost use Rattle.std.specs.Prelude.{◌<◌, length};
-ghost use Rattle.symbols.specs.Wanted.{given_of};
+ghost use Rattle.std.specs.Prelude.{◌≡◌, ◌<◌, length, MatchResult};
+ghost use Rattle.symbols.specs.Resolved.{IsResolved};
+ghost use Rattle.symbols.specs.Wanted.{Wanted as TheWanted, given_of};
 ghost use Rattle.layout.specs.Placed.{IsPlaced};
+ghost use Rattle.layout.specs.Faults.{Refuses};
 
 use super::*;
 use elf_objects::{Object, Objects};
 use std::alloc::{AllocError, Global};
 use std::process::Abort;
 use std::test::*;
-use symbols::{Wanted, resolve};
+use symbols::{Resolved, Wanted, resolve};
 
 /// A section: its type and flags, its size and its alignment.
 type Row = ((u32, u64), u64, u64);
@@ -24,7 +26,7 @@ const STRING_TABLE: (u32, u64) = (3, 0);
 
 const NO_TYPE: (u32, u64) = (0, 0);
 
-/// How many bytes stand in a file, which all its sections share.
+/// The bytes of content in a file, which all its sections share.
 const CONTENT: u16 = 4096;
 
 /// The object with these sections from 1 on, which have no names.
@@ -78,7 +80,7 @@ fn put_64(n: u64, out: &mut Vec<u8>) -> Result<(), AllocError> {
     out.extend_from_slice(&n.to_le_bytes())
 }
 
-/// Reads an object and adds it to the list so many times.
+/// Reads an object and adds it to the list the given number of times.
 fn add_objects<'a>(
     rt: &impl Abort,
     alloc: Global,
@@ -93,6 +95,33 @@ fn add_objects<'a>(
         objects.push(Object::read(alloc, file, number)?)?;
     }
     Ok(())
+}
+
+/// Places the sections of objects, by what their symbols stand for under the wanted names.
+fn place(
+    alloc: Global,
+    objects: &Objects<'_>,
+    wanted: &Wanted,
+    resolved: &Resolved,
+) -> Result<Placed, LayoutFault>
+    requires { IsResolved (given_of objects.now wanted.now) resolved.now }
+    ensures { MatchResult result (IsPlaced (given_of objects.now wanted.now)) (Refuses (given_of objects.now wanted.now)) }
+{
+    place_under(alloc, objects, wanted, resolved)
+}
+
+fn place_under(
+    alloc: Global,
+    objects: &Objects<'_>,
+    wanted: &Wanted,
+    resolved: &Resolved,
+) -> Result<Placed, LayoutFault>
+    ghost names: { TheWanted }
+    requires resolved { IsResolved (given_of objects.now names) resolved.now }
+    requires same { names ≡ wanted.now }
+    ensures { MatchResult result (IsPlaced (given_of objects.now names)) (Refuses (given_of objects.now names)) }
+{
+    place_all(alloc, objects, resolved, wanted.stack())
 }
 
 /// The address of a section.
@@ -138,7 +167,7 @@ fn sections_have_their_addresses(rt: HostRuntime) -> Result<(), Fail> {
     add_objects(&rt, rt.alloc(), &mut objects, &second, 1)?;
     let wanted = Wanted::new(rt.alloc(), 4096);
     let resolved = resolve(rt.alloc(), &objects, &wanted)?;
-    let placed = place_all(rt.alloc(), &objects, &resolved, 4096)?;
+    let placed = place(rt.alloc(), &objects, &wanted, &resolved)?;
     let addresses = [
         (0, 0, None),
         (0, 1, None),
@@ -164,14 +193,14 @@ fn sections_have_their_addresses(rt: HostRuntime) -> Result<(), Fail> {
     Ok(())
 }
 
-/// The code of the fault of objects with these sections, so many times, and 0 where there is none.
+/// The code of the fault of the given number of objects with these sections, and 0 where there is none.
 fn fault_of(rt: &impl Abort, alloc: Global, rows: &[Row], times: u32) -> Result<u8, Fail> {
     let file = file_of(alloc, rows)?;
     let mut objects = Objects::new(alloc);
     add_objects(rt, alloc, &mut objects, &file, times)?;
     let wanted = Wanted::new(alloc, 4096);
     let resolved = resolve(alloc, &objects, &wanted)?;
-    match place_all(alloc, &objects, &resolved, 4096) {
+    match place(alloc, &objects, &wanted, &resolved) {
         Ok(_) => Ok(0),
         Err(LayoutFault::Bad(fault)) => {
             assert_eq!(rt; (fault.object, fault.section, fault.offset), (0, 0, 0));

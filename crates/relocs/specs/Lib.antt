@@ -1,4 +1,16 @@
+pub mod Kinds
 pub mod Places
 pub mod Words
+pub mod Pairs
 pub mod AddressMap
+pub mod Values
+pub mod Operands
+pub mod Sites
+pub mod CodeFaults
+pub mod Data
 pub mod Images
+pub mod CodeMap
+pub mod Sources
+pub mod Laws
+pub mod ByOffset
+pub mod Near

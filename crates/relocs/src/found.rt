@@ -1,0 +1,72 @@
+ghost use Rattle.std.specs.Prelude.{◌≡◌, ◌<◌, ◌^◌, ◌-◌, if◌then◌else◌};
+ghost use Rattle.faults.specs.First.{◌or_else◌, where_true};
+ghost use Rattle.relocs.specs.Kinds.{is_call as is_the_call, kind_of as the_kind};
+ghost use Rattle.relocs.specs.Pairs.{stands_at};
+ghost use Rattle.relocs.specs.Sites.{found_more, gives_high};
+
+use crate::kinds::{Kind, kind_of};
+use elf_objects::Relocation;
+use symbols::has_effect;
+
+/// A summary of the relocations at one offset.
+#[derive(Clone, Copy, Debug)]
+pub(crate) struct Found {
+    /// Their number.
+    pub count: usize,
+    /// Whether a CALL is among them.
+    pub call: bool,
+    /// The first that gives an `auipc` its value.
+    pub high: Option<Relocation>,
+}
+
+impl Found {
+    /// The same with one relocation more, where it is at the offset.
+    pub(crate) fn with(self, relocation: Relocation, offset: u64) -> Found
+        requires { self.count < 2 ^ 64 - 1 }
+        ensures { result ≡ (if stands_at offset relocation then found_more self relocation else self) }
+    {
+        if has_effect(relocation.kind) && relocation.offset == offset {
+            self.with_one(relocation)
+        } else {
+            self
+        }
+    }
+
+    fn with_one(self, relocation: Relocation) -> Found
+        requires { self.count < 2 ^ 64 - 1 }
+        ensures { result ≡ found_more self relocation }
+    {
+        Found {
+            count: self.count + 1,
+            call: self.call || is_call(relocation),
+            high: first(self.high, if_high(relocation)),
+        }
+    }
+}
+
+/// A relocation is a CALL.
+fn is_call(relocation: Relocation) -> bool
+    ensures { result ≡ is_the_call (the_kind relocation.kind) }
+{
+    matches!(kind_of(relocation.kind), Kind::Call)
+}
+
+/// A relocation, where it gives an `auipc` its value.
+fn if_high(relocation: Relocation) -> Option<Relocation>
+    ensures { result ≡ where_true (gives_high relocation) relocation }
+{
+    match kind_of(relocation.kind) {
+        Kind::GotHigh | Kind::PcHigh => Some(relocation),
+        _ => None,
+    }
+}
+
+/// The first of two, and where there is none the second.
+fn first(a: Option<Relocation>, b: Option<Relocation>) -> Option<Relocation>
+    ensures { result ≡ (a or_else b) }
+{
+    match a {
+        Some(relocation) => Some(relocation),
+        None => b,
+    }
+}
