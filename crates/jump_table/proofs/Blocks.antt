@@ -40,7 +40,7 @@ groups_position (len ∷ lengths) (b ∷ bs) zero = refl
 groups_position (len ∷ lengths) (b ∷ bs) (suc k) = let r = groups_position lengths bs k in omega (arith, members_count len b)
 
 -- the members of a block
-groups_get : (lengths : List ℕ) (bs : List Block) (k : ℕ) (b : Block) → slice_get bs k ≡ Some b → slice_get (groups lengths bs) k ≡ Some (members (slice_index lengths k) b)
+pub groups_get : (lengths : List ℕ) (bs : List Block) (k : ℕ) (b : Block) → slice_get bs k ≡ Some b → slice_get (groups lengths bs) k ≡ Some (members (slice_index lengths k) b)
 groups_get lengths [] k b e = absurd cc
 groups_get [] (c ∷ bs) zero b e = let same : c ≡ b = cc in rw same refl
 groups_get [] (c ∷ bs) (suc k) b e = groups_get [] bs k b e
@@ -90,7 +90,7 @@ start_first lengths list =
     rw block (omega arith)
 
 -- what holds of each of two lists holds of each of both, one behind the other
-all_append : {A : Type 0} (P : A → Type 0) (xs ys : List A) → AllByRecursion P xs → AllByRecursion P ys → AllByRecursion P (xs ++ ys)
+pub all_append : {A : Type 0} (P : A → Type 0) (xs ys : List A) → AllByRecursion P xs → AllByRecursion P ys → AllByRecursion P (xs ++ ys)
 all_append P [] ys h g = g
 all_append P (x ∷ xs) ys h g = (h.0, all_append P xs ys h.1 g)
 
@@ -98,7 +98,7 @@ pub all_map : {A B : Type 0} (P : B → Type 0) (f : A → B) (xs : List A) → 
 all_map P f [] h = tt
 all_map P f (x ∷ xs) h = (h.0, all_map P f xs h.1)
 
-all_at : {A : Type 0} (P : A → Type 0) (xs : List A) (k : ℕ) (x : A) → AllByRecursion P xs → slice_get xs k ≡ Some x → P x
+pub all_at : {A : Type 0} (P : A → Type 0) (xs : List A) (k : ℕ) (x : A) → AllByRecursion P xs → slice_get xs k ≡ Some x → P x
 all_at P [] k x h e = absurd cc
 all_at P (y ∷ ys) zero x h e = let same : y ≡ x = cc in subst P same h.0
 all_at P (y ∷ ys) (suc k) x h e = all_at P ys k x h.1 e
@@ -147,7 +147,7 @@ pub member_aims : (lengths : List ℕ) (list : BlockList) → ((k target : ℕ) 
 member_aims lengths list h number target m e f = all_at (λ (m : Member). (target : ℕ) → m.target ≡ Some target → target < length list.blocks) (members_of lengths list) number m (aimed_below (length list.blocks) lengths list.blocks h) e target f
 
 -- an instruction is as long with its offset
-placed_length : (lengths : List ℕ) (list : BlockList) (number : ℕ) (target : Option ℕ) (i : Instr) (len : ℕ) → length (spelling (placed_instr lengths list number target i) len) ≡ length (spelling i len)
+pub placed_length : (lengths : List ℕ) (list : BlockList) (number : ℕ) (target : Option ℕ) (i : Instr) (len : ℕ) → length (spelling (placed_instr lengths list number target i) len) ≡ length (spelling i len)
 placed_length lengths list number None i len = refl
 placed_length lengths list number (Some target) i len = length-with (offset (instr_position lengths list number) (start_of lengths list target)) i len
 

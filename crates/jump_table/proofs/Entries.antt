@@ -41,7 +41,7 @@ unfolding is_known
 jump_known = refl
 
 -- the bytes of a jump
-length-jump : (x : ℕ) → length (spelling (jump x) offset_len) ≡ entry_len
+pub length-jump : (x : ℕ) → length (spelling (jump x) offset_len) ≡ entry_len
 unfolding spelling form_of
 length-jump x = refl
 

@@ -5,3 +5,6 @@ pub mod Offsets
 pub mod Blocks
 pub mod Starting
 pub mod Placed
+pub mod BlockStarts
+pub mod Steps
+pub mod Marking

@@ -33,7 +33,7 @@ moved : (code : Listing) (at to next behind : ℕ) (i : Instr) → at ≡ to →
 moved code at to next behind i e f h = subst (λ n. Fetches code to i n) f (subst (λ p. Fetches code p i next) e h)
 
 -- an instruction keeps its opcode
-placed_op : (lengths : List ℕ) (list : BlockList) (number : ℕ) (target : Option ℕ) (i : Instr) → (placed_instr lengths list number target i).op ≡ i.op
+pub placed_op : (lengths : List ℕ) (list : BlockList) (number : ℕ) (target : Option ℕ) (i : Instr) → (placed_instr lengths list number target i).op ≡ i.op
 placed_op lengths list number None i = refl
 placed_op lengths list number (Some target) i = (with_rest (form_of i.op) (offset (instr_position lengths list number) (start_of lengths list target)) i).op
 
@@ -74,7 +74,7 @@ module _ (lengths : List ℕ) (list : BlockList) (small : length (joined (words 
         (spelled_fetches (code_members lengths list) entry _ is jump_known (jump_encodable _ fits))
 
     -- an instruction can be spelled with its offset
-    placed_encodable : (number : ℕ) (m : Member) → slice_get (members_of lengths list) number ≡ Some m → IsEncodable (placed_instr lengths list number m.target m.instr) m.len
+    pub placed_encodable : (number : ℕ) (m : Member) → slice_get (members_of lengths list) number ≡ Some m → IsEncodable (placed_instr lengths list number m.target m.instr) m.len
     placed_encodable number m e = by_target m.target refl
       where
         few : m.len ≤ 4
@@ -153,7 +153,7 @@ module _ (lengths : List ℕ) (list : BlockList) (small : length (joined (words 
     all_placed = record { entries = entry_stands; instrs = instr_stands; leads = λ number target m e has. aimed_leads number m.target target m.instr e has; past = none_behind; starts = each_starts; lands = λ are_ended number target m e f. each_starts are_ended target (member_aims lengths list plain.targets number target m e f) }
 
   -- offsets of four bytes are wide enough
-  fours_are_wide : AreLengths list lengths → IsWide list lengths
+  pub fours_are_wide : AreLengths list lengths → IsWide list lengths
   fours_are_wide four = record {
     few = λ k len e. (let same = four_lengths k len e in omega (arith, same));
     fits = λ number target m e f has. subst (λ len. FitsBytes len (offset (instr_position lengths list number) (start_of lengths list target))) (sym (four_member lengths list four number m e)) (offset_fits (instr_position lengths list number) (start_of lengths list target) (position_small number) (position_small (first_of list target)));

@@ -27,7 +27,7 @@ unfolding spelling
 op_read bytes at i len h = h.0
 
 -- no spelling is empty
-some_spelling : (i : Instr) (len : ℕ) → 1 ≤ length (spelling i len)
+pub some_spelling : (i : Instr) (len : ℕ) → 1 ≤ length (spelling i len)
 unfolding spelling
 some_spelling i len = omega arith
 
