@@ -3,6 +3,7 @@ use Rattle.std.proofs.Common.{◌≡◌, ℕ, zero, suc, ◌+◌, ◌≤◌, Lis
 use Rattle.std.specs.Prelude.{slice_get, if◌then◌else◌}
 use Rattle.std.proofs.lemmas.Option.{slice_get_past, slice_get_within, slice_get-get_or}
 use Rattle.numbers.specs.Words.{word_of}
+use Rattle.faults.specs.First.{where_true}
 use Rattle.arithmetic.specs.Operations.{holds}
 use Rattle.rv_decode.specs.declared.ops.RvOp.{RvOp}
 use Rattle.rv_decode.specs.declared.ops.RvOp.TheVariants as rv
@@ -12,11 +13,12 @@ use Rattle.runs.specs.Laid.{GoesOn, LaidAt}
 use Rattle.machine_state.specs.State.{State}
 use Rattle.machine_state.specs.Ends.{End, halt, panic}
 use Rattle.page_memory.proofs.Outcomes.{loads_by, stores_by}
-use Rattle.relocs.specs.Places.{CodePlace, Nowhere, next_place}
+use Rattle.relocs.specs.Places.{CodePlace, Nowhere}
+use Rattle.relocs.specs.Pairs.{next_place}
 use Rattle.relocs.specs.AddressMap.{needed_places}
 use Rattle.lift_blocks.specs.Arithmetic.{of_cond}
 use Rattle.lift_blocks.specs.Operations.{Operation, Plain, Branch, Jal, Jalr, Pair, HostCall, Sbrk, rename, operation_in, operation_at}
-use Rattle.lift_blocks.specs.Listed.{place, or_nowhere, some_if, plain_goes_on, can_go_on, next_of, onward_of}
+use Rattle.lift_blocks.specs.Listed.{place, or_nowhere, plain_goes_on, can_go_on, next_of, onward_of}
 use Rattle.lift_blocks.specs.Step.{load_bytes, load_has_sign, store_bytes, plain_does, op_does, value, with_value, behind, fetch_op}
 use Rattle.lift_blocks.specs.Laws.{SourceLock}
 use Rattle.lift_blocks.proofs.Renamed.{does_renamed}
@@ -76,14 +78,14 @@ lock given lifted h = record { stands = stands; past = past }
         let is : place lifted.places q ≡ p = ap or_nowhere here in
         let o : operation_at given p ≡ Some (rename (place lifted.places) op) = rw is at (h.ops_are q op e) in
         let goes : can_go_on (rename (place lifted.places) op) ≡ true = goes_renamed (place lifted.places) op ∙ can in
-        let given_next : onward_of given p ≡ Some (next_place given p) = ap (next_of given p) o ∙ ap (λ b. some_if b (next_place given p)) goes in
+        let given_next : onward_of given p ≡ Some (next_place given p) = ap (next_of given p) o ∙ ap (λ b. where_true b (next_place given p)) goes in
         let listed : slice_get lifted.places (suc q) ≡ Some (next_place given p) = ap (λ l. slice_get l (suc q)) h.places_are ∙ next_listed given q p (next_place given p) (ap (λ l. slice_get l q) (sym h.places_are) ∙ here) given_next in
         ap (next_place given) is ∙ sym (rw add-one (ap or_nowhere listed))
 
     stands : (q : ℕ) (op : Operation ℕ) → slice_get lifted.ops q ≡ Some op → LaidAt (op_does lifted.needed) (op_does (needed_places given)) (λ t. t) (place lifted.places) (fetch_op given) q op
     stands q op e =
         let o = h.ops_are q op e in
-        let table : map (place lifted.places) lifted.needed ≡ needed_places given = h.needed_are in
+        let table : map (place lifted.places) lifted.needed ≡ needed_places given = h.needed_are ∙ h.map_is in
         record {
           instr = rename (place lifted.places) op;
           next = next_place given (place lifted.places q);

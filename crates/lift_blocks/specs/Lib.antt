@@ -1,5 +1,15 @@
 pub mod Operations
 pub mod Arithmetic
+pub mod Fits
 pub mod Step
 pub mod Listed
+pub mod Kept
+pub mod PlacedOps
+pub mod Rank
+pub mod CodeList
+pub mod Marks
+pub mod Known
+pub mod Listing
+pub mod Lifting
 pub mod Laws
+pub mod FirstFault

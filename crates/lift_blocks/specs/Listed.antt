@@ -1,20 +1,20 @@
 -- The operations in code order, and where blocks begin.
-use Rattle.std.specs.Prelude.{◌≡◌, ℕ, ◌-◌, ◌^◌, ◌<◌, List, [], ◌∷◌, ◌++◌, length, Option, Some, None, Bool, true, false, not, ◌||◌, nat_eq, map, slice_get}
+use Rattle.std.specs.Prelude.{◌≡◌, ℕ, ◌<◌, List, [], ◌∷◌, ◌++◌, length, Option, Some, None, Bool, true, false, not, ◌||◌, nat_eq, nat_lt, map, slice_get, if◌then◌else◌}
 use Rattle.std.specs.List.{filter, filter_map, range_with_len}
+use Rattle.faults.specs.First.{where_true}
 use Rattle.rv_decode.specs.declared.ops.RvOp.{RvOp}
 use Rattle.rv_decode.specs.declared.ops.RvOp.TheVariants as rv
 use Rattle.symbols.specs.declared.place.Place.{Place}
 use Rattle.symbols.specs.declared.place.Place.TheVariants as names
 use Rattle.symbols.specs.Wanted.{Given}
 use Rattle.symbols.specs.Resolution.{entry_place}
-use Rattle.relocs.specs.Places.{CodePlace, Code, Stub, Nowhere, code_at, all_places, has, next_place}
+use Rattle.relocs.specs.Places.{CodePlace, Code, Stub, Nowhere, code_at, has}
+use Rattle.relocs.specs.Pairs.{all_places, next_place}
+use Rattle.relocs.specs.CodeMap.{place_of}
 use Rattle.relocs.specs.AddressMap.{needed_places}
+use Rattle.relocs.specs.CodeFaults.{code_faults}
 use Rattle.lift_blocks.specs.Operations.{Operation, Plain, Branch, Jal, Jalr, Pair, HostCall, Sbrk, rename, operation_at}
-
--- the place of code that a name stands for
-abbrev pub place_of : Place → CodePlace
-place_of (names.Code object section offset) = Code object section offset
-place_of other = Nowhere
+use Rattle.lift_blocks.specs.Fits.{FitsInstructions}
 
 -- the places of the entries
 abbrev pub entry_places : Given → List CodePlace
@@ -54,14 +54,10 @@ target_of (Pair temp rd link target) = Some target
 target_of (HostCall number) = None
 target_of Sbrk = None
 
-abbrev pub some_if : {A : Type 0} → Bool → A → Option A
-some_if true x = Some x
-some_if false x = None
-
 -- the place after an operation, where the machine can go on to it
 abbrev pub next_of : Given → CodePlace → Option (Operation CodePlace) → Option CodePlace
 next_of given p None = None
-next_of given p (Some op) = some_if (can_go_on op) (next_place given p)
+next_of given p (Some op) = where_true (can_go_on op) (next_place given p)
 
 abbrev pub onward_of : Given → CodePlace → Option CodePlace
 onward_of given p = next_of given p (operation_at given p)
@@ -97,7 +93,7 @@ abbrev pub is_emitted : Given → CodePlace → Bool
 is_emitted given p = not (is_end given p) || has (onward_places given ++ aimed_places given) p
 
 -- the places of the operations in code order
-abbrev pub code_places : Given → List CodePlace
+unfoldable pub code_places : Given → List CodePlace
 code_places given = filter (is_emitted given) (all_places given)
 
 -- whether a block ends at a place
@@ -118,24 +114,40 @@ or_nowhere (Some p) = p
 abbrev pub place : List CodePlace → ℕ → CodePlace
 place places q = or_nowhere (slice_get places q)
 
+-- a place as callers see it: a stub is its import, and the trap stub is what is absent
+abbrev pub shown : ℕ → CodePlace → Place
+shown imports (Code o s offset) = names.Code o s offset
+shown imports (Stub n at) = if nat_lt n imports then names.Import n else names.Absent
+shown imports Nowhere = names.Absent
+
 -- The operations in code order: their places, they themselves with numbers of operations as targets, which of them
--- begin a block, and the operations of the entries and of the address map.
+-- begin a block, the operations of the entries and of the address map, that map, and the number of imports.
 pub record Lifted : Type 0 where
   pub places : List CodePlace
   pub ops : List (Operation ℕ)
   pub begins : List Bool
   pub entries : List ℕ
   pub needed : List ℕ
+  pub map : List CodePlace
+  pub imports : ℕ
 
 -- what they are for what a link is given
 pub record IsLifted (given : Given) (lifted : Lifted) : Type 0 where
   pub places_are : lifted.places ≡ code_places given
   pub count : length lifted.ops ≡ length lifted.places
   pub ops_are : (q : ℕ) (op : Operation ℕ) → slice_get lifted.ops q ≡ Some op → operation_at given (place lifted.places q) ≡ Some (rename (place lifted.places) op)
+  -- instructions can hold the registers, the immediates and the links
+  pub ops_fit : (q : ℕ) (op : Operation ℕ) → slice_get lifted.ops q ≡ Some op → FitsInstructions op
+  pub targets_exist : (q t : ℕ) (op : Operation ℕ) → slice_get lifted.ops q ≡ Some op → target_of op ≡ Some t → t < length lifted.places
   pub begins_are : lifted.begins ≡ starts given true lifted.places
+  pub map_is : lifted.map ≡ needed_places given
+  pub imports_are : lifted.imports ≡ length given.wanted.imports
   pub entries_are : map (place lifted.places) lifted.entries ≡ entry_places given
-  pub entries_stand : (entry t : ℕ) → slice_get lifted.entries entry ≡ Some t → t < length lifted.places
-  pub needed_are : map (place lifted.places) lifted.needed ≡ needed_places given
-  -- so few that each number of the map has 31 bits
-  pub few_needed : length lifted.needed < 2 ^ 30 - 1
-  pub needed_stand : (i t : ℕ) → slice_get lifted.needed i ≡ Some t → t < length lifted.places
+  pub entries_exist : (entry t : ℕ) → slice_get lifted.entries entry ≡ Some t → t < length lifted.places
+  pub needed_are : map (place lifted.places) lifted.needed ≡ lifted.map
+  pub needed_exist : (i t : ℕ) → slice_get lifted.needed i ≡ Some t → t < length lifted.places
+
+-- they are those of code without a fault
+pub record Lifts (given : Given) (lifted : Lifted) : Type 0 where
+  pub is : IsLifted given lifted
+  pub no_fault : code_faults given ≡ []

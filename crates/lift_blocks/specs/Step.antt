@@ -20,7 +20,8 @@ use Rattle.machine_state.specs.State.{State, register, with_register}
 use Rattle.machine_state.specs.Ends.{Event, End, Host, halt, panic, rules}
 use Rattle.page_memory.specs.Outcomes.{loads, stores}
 use Rattle.symbols.specs.Wanted.{Given}
-use Rattle.relocs.specs.Places.{CodePlace, next_place}
+use Rattle.relocs.specs.Places.{CodePlace}
+use Rattle.relocs.specs.Pairs.{next_place}
 use Rattle.relocs.specs.AddressMap.{needed_places}
 use Rattle.lift_blocks.specs.Arithmetic.{of_alu_imm, of_alu, of_cond}
 use Rattle.lift_blocks.specs.Operations.{Operation, Plain, Branch, Jal, Jalr, Pair, HostCall, Sbrk, operation_at}

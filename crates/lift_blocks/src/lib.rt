@@ -1,9 +1,34 @@
-//! The source machine: the operation at each place, what operations do, and the operations in code order with their blocks.
+//! From objects to operations: the source machine, and the operations of a program in code order with their blocks.
 //!
-//! So far these are definitions, with the law that the operations in code order and the same by their places run alike.
+//! `specs/` has the operation at each place, what operations do, and the operations in code order. That these run as the
+//! same by their places do is a law.
 #![tactic(auto)]
 
-ghost use Rattle.lift_blocks.specs.Laws.{SourceLock, BoundsStay};
+ghost use Rattle.lift_blocks.specs.Laws.{SourceLock, BoundsStay, LiftedIsOne};
+
+mod entries;
+mod fault;
+mod first_fault;
+mod lifted;
+mod lifting;
+mod listing;
+mod mapping;
+mod marks;
+mod named_places;
+mod needed;
+mod operations;
+mod placed_op;
+mod reader;
+mod search;
+mod site;
+mod source_op;
+mod stubs;
+mod surveying;
+
+pub use fault::LiftFault;
+pub use lifted::Lifted;
+pub use lifting::lift;
+pub use source_op::SourceOp;
 
 /// The operations of a program in code order run as the same by their places do.
 pub fn source_lock()
@@ -13,4 +38,10 @@ pub fn source_lock()
 /// No operation changes how far the heap may grow, or how many pages the memory may have.
 pub fn bounds_stay()
     ensures { BoundsStay }
+{}
+
+/// A link's input has one list of operations.
+#[tactic(auto, using(crate::proofs::OneLifted::lifted_is_one))]
+pub fn lifted_is_one()
+    ensures { LiftedIsOne }
 {}

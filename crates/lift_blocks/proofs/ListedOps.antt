@@ -1,0 +1,316 @@
+-- From the operations at all places to those in code order.
+use Rattle.std.proofs.Common.{◌≡◌, ℕ, zero, suc, ◌+◌, ◌<◌, ◌≤◌, ◌^◌, Bool, true, false, cond, List, [], ◌∷◌, ◌++◌, length, get_or, map, take, drop, Option, Some, None, refl, sym, ap, ◌∙◌, arith, subst, drop-cons, add-one}
+use Rattle.std.specs.Prelude.{slice_get, not, ◌||◌, nat_lt}
+use Rattle.std.specs.List.{AllByRecursion, filter_map, cons_option, position, position_or_len}
+use Rattle.std.specs.Option.{option_map}
+use Rattle.std.proofs.lemmas.List.{length-map, append_assoc}
+use Rattle.std.proofs.lemmas.List.Folds.{list_any-append}
+use Rattle.std.proofs.lemmas.List.Sums.{passes_at_first}
+use Rattle.std.proofs.lemmas.Option.{slice_get-map, slice_get_within, slice_get-get_or, get_or_from_slice_get}
+use Rattle.symbols.specs.Wanted.{Given}
+use Rattle.relocs.specs.Places.{CodePlace, same_place, has}
+use Rattle.relocs.specs.Pairs.{all_places}
+use Rattle.relocs.specs.AddressMap.{named_places, needed_places}
+use Rattle.lift_blocks.specs.declared.placed_op.PlacedOp.{PlacedOp}
+use Rattle.lift_blocks.specs.declared.site.Site.{Site}
+use Rattle.lift_blocks.specs.declared.source_op.SourceOp.{SourceOp}
+use Rattle.lift_blocks.specs.Operations.{Operation, rename, operation_at}
+use Rattle.lift_blocks.specs.Fits.{FitsInstructions}
+use Rattle.lift_blocks.specs.Kept.{site_of, operation_of, IsInRange}
+use Rattle.lift_blocks.specs.Listed.{Lifted, IsLifted, aimed_places, onward_places, entry_places, target_in, target_at, target_of, is_end, is_emitted, code_places, ends_at, ends_block, starts, place, or_nowhere}
+use Rattle.lift_blocks.specs.Listing.{AreOperations, AreNumbers, IsNumberOf, AreNumbersOf, HasTargetIn, IsNumbered, AreNumbered, begins_from, placed_operations}
+use Rattle.lift_blocks.specs.Marks.{with_marks, chosen, numbered}
+use Rattle.lift_blocks.specs.PlacedOps.{placed_operation_of}
+use Rattle.std.proofs.lemmas.Bool.{ltb-true}
+use Rattle.lift_blocks.proofs.Finding.{place_same}
+use Rattle.lift_blocks.proofs.Marking.{has_these}
+use Rattle.lift_blocks.proofs.Choosing.{chosen_filter, chosen_map, numbered_at}
+
+-- ---- lists
+
+filter_map-map : {X Y Z : Type 0} (h : Y → Option Z) (f : X → Y) (xs : List X) → filter_map h (map f xs) ≡ filter_map (λ x. h (f x)) xs
+filter_map-map h f [] = refl
+filter_map-map h f (x ∷ xs) = ap (cons_option (h (f x))) (filter_map-map h f xs)
+
+or_swap : (a b : Bool) → (a || b) ≡ (b || a)
+or_swap true true = refl
+or_swap true false = refl
+or_swap false true = refl
+or_swap false false = refl
+
+has_swap : (these others : List CodePlace) (p : CodePlace) → has (these ++ others) p ≡ has (others ++ these) p
+has_swap these others p = list_any-append (same_place p) these others ∙ or_swap (has these p) (has others p) ∙ sym (list_any-append (same_place p) others these)
+
+take_next : {X : Type 0} (xs : List X) (i : ℕ) (x : X) → slice_get xs i ≡ Some x → take (i + 1) xs ≡ take i xs ++ x ∷ []
+take_next {X = X} xs i x e = ap (λ n. take n xs) (add-one i) ∙ by_suc xs i e
+  where
+    by_suc : (xs : List X) (i : ℕ) → slice_get xs i ≡ Some x → take (suc i) xs ≡ take i xs ++ x ∷ []
+    by_suc [] i e = absurd cc
+    by_suc (y ∷ xs) zero e = (let same : y ≡ x = cc in rw same refl)
+    by_suc (y ∷ xs) (suc i) e = ap (λ l. y ∷ l) (by_suc xs i e)
+
+map_append : {X Y : Type 0} (f : X → Y) (xs ys : List X) → map f (xs ++ ys) ≡ map f xs ++ map f ys
+map_append f [] ys = refl
+map_append f (x ∷ xs) ys = ap (λ l. f x ∷ l) (map_append f xs ys)
+
+-- an element more of a list that is made of another
+pub map_more : {X Y : Type 0} (f : X → Y) (xs : List X) (i : ℕ) (x : X) (now new : List Y) (y : Y) → slice_get xs i ≡ Some x → now ≡ map f (take i xs) → y ≡ f x → new ≡ now ++ y ∷ [] → new ≡ map f (take (i + 1) xs)
+map_more f xs i x now new y e was is added =
+    added ∙ ap (λ l. l ++ y ∷ []) was ∙ ap (λ z. map f (take i xs) ++ z ∷ []) is ∙ sym (map_append f (take i xs) (x ∷ [])) ∙ ap (map f) (sym (take_next xs i x e))
+
+pub take_all : {X : Type 0} (xs : List X) (n : ℕ) → length xs ≤ n → take n xs ≡ xs
+take_all [] zero le = refl
+take_all [] (suc n) le = refl
+take_all (x ∷ xs) zero le = absurd (omega (arith, le))
+take_all (x ∷ xs) (suc n) le = ap (λ l. x ∷ l) (take_all xs n (omega (arith, le)))
+
+-- a list that a loop makes, with its next element
+pub listed_next : {X : Type 0} (now new rest more all : List X) (x : X) → now ++ rest ≡ all → new ≡ now ++ x ∷ [] → rest ≡ x ∷ more → new ++ more ≡ all
+listed_next now new rest more all x was is next = ap (λ l. l ++ more) is ∙ append_assoc now (x ∷ []) more ∙ ap (λ l. now ++ l) (sym next) ∙ was
+
+-- ---- operations at places
+
+module _ (given : Given) (ps : List CodePlace) (ops : List PlacedOp) (are : AreOperations given ps ops) where
+  targets_are : filter_map (target_at given) ps ≡ filter_map target_of (placed_operations ops)
+  targets_are =
+      sym (filter_map-map target_in (operation_at given) ps) ∙ ap (filter_map target_in) are.are
+      ∙ filter_map-map target_in (λ (o : PlacedOp). Some (placed_operation_of o)) ops ∙ sym (filter_map-map target_of placed_operation_of ops)
+
+  pub count : length ps ≡ length ops
+  count = sym (length-map ps (operation_at given)) ∙ ap length are.are ∙ length-map ops (λ (o : PlacedOp). Some (placed_operation_of o))
+
+  pub operation_is : (i : ℕ) (p : CodePlace) (o : PlacedOp) → slice_get ps i ≡ Some p → slice_get ops i ≡ Some o → operation_at given p ≡ Some (placed_operation_of o)
+  operation_is i p o e f =
+      let left : slice_get (map (operation_at given) ps) i ≡ Some (operation_at given p) = slice_get-map (operation_at given) ps i ∙ ap (option_map (operation_at given)) e in
+      let right : slice_get (map (λ (o : PlacedOp). Some (placed_operation_of o)) ops) i ≡ Some (Some (placed_operation_of o)) = slice_get-map (λ (o : PlacedOp). Some (placed_operation_of o)) ops i ∙ ap (option_map (λ (o : PlacedOp). Some (placed_operation_of o))) f in
+      let both = sym left ∙ ap (λ l. slice_get l i) are.are ∙ right in
+      cc
+
+-- the needed places, as they are chosen by their marks
+pub needed_chosen : (given : Given) (places : List Site) (needed : List Bool) → map site_of places ≡ all_places given → needed ≡ map (has (named_places given)) (all_places given) → map site_of (chosen needed places) ≡ needed_places given
+unfolding needed_places
+needed_chosen given places needed are marked =
+    sym (chosen_map site_of needed places) ∙ ap (chosen needed) are ∙ ap (λ bs. chosen bs (all_places given)) marked ∙ chosen_filter (has (named_places given)) (all_places given)
+
+-- entries, targets and needed places
+pub aimed_are : (given : Given) (ops : List PlacedOp) (entries needed : List CodePlace) → AreOperations given (all_places given) ops → entries ≡ entry_places given → needed ≡ needed_places given
+    → entries ++ filter_map target_of (placed_operations ops) ++ needed ≡ aimed_places given
+aimed_are given ops entries needed are entries_are needed_are =
+    let targets = filter_map target_of (placed_operations ops) in
+    ap (λ l. l ++ targets ++ needed) entries_are ∙ ap (λ l. entry_places given ++ l ++ needed) (sym (targets_are given (all_places given) ops are))
+    ∙ ap (λ l. entry_places given ++ filter_map (target_at given) (all_places given) ++ l) needed_are
+
+-- with the places that operations go on to
+pub reached_are : (given : Given) (marks new : List Bool) → marks ≡ map (has (aimed_places given)) (all_places given) → new ≡ with_marks (all_places given) marks (onward_places given) → new ≡ map (has (aimed_places given ++ onward_places given)) (all_places given)
+reached_are given marks new was is = is ∙ ap (λ m. with_marks (all_places given) m (onward_places given)) was ∙ has_these (all_places given) (aimed_places given) (onward_places given)
+
+-- the place with a number is listed
+pub emitted_more : (given : Given) (ps : List CodePlace) (reached now new : List Bool) (i : ℕ) (p : CodePlace) (end mark : Bool) → slice_get ps i ≡ Some p → reached ≡ map (has (aimed_places given ++ onward_places given)) ps
+    → slice_get reached i ≡ Some mark → end ≡ is_end given p → now ≡ map (is_emitted given) (take i ps) → new ≡ now ++ (not end || mark) ∷ [] → new ≡ map (is_emitted given) (take (i + 1) ps)
+emitted_more given ps reached now new i p end mark e are marked ends was added =
+    let here : slice_get (map (has (aimed_places given ++ onward_places given)) ps) i ≡ Some (has (aimed_places given ++ onward_places given) p) = slice_get-map (has (aimed_places given ++ onward_places given)) ps i ∙ ap (option_map (has (aimed_places given ++ onward_places given))) e in
+    let both : Some mark ≡ Some (has (aimed_places given ++ onward_places given) p) = sym marked ∙ ap (λ l. slice_get l i) are ∙ here in
+    let mark_is : mark ≡ has (aimed_places given ++ onward_places given) p = cc in
+    let is : (not end || mark) ≡ is_emitted given p = rw (ends, mark_is) (ap (λ b. not (is_end given p) || b) (has_swap (aimed_places given) (onward_places given) p)) in
+    map_more (is_emitted given) ps i p now new (not end || mark) e was is added
+
+-- ---- blocks
+
+-- which operations begin a block, from an index on
+pub begins_step : (ended : Bool) (aimed : List Bool) (ops : List PlacedOp) (i : ℕ) (d : PlacedOp) → i < length ops → length aimed ≡ length ops
+    → begins_from ended (drop i aimed) (placed_operations (drop i ops)) ≡ (ended || get_or aimed i false) ∷ begins_from (ends_block (placed_operation_of (get_or ops i d))) (drop (i + 1) aimed) (placed_operations (drop (i + 1) ops))
+begins_step ended aimed ops i d lt same =
+    let within : i < length aimed = omega (arith, lt, same) in
+    rw (add-one, drop-cons aimed i false within, drop-cons ops i d lt) refl
+
+-- the same, with what the code finds there
+pub begins_more : (ended begins next : Bool) (aimed : List Bool) (ops : List PlacedOp) (i : ℕ) (o : PlacedOp) → slice_get ops i ≡ Some o → length aimed ≡ length ops → begins ≡ (ended || get_or aimed i false) → next ≡ ends_block (placed_operation_of o)
+    → begins_from ended (drop i aimed) (placed_operations (drop i ops)) ≡ begins ∷ begins_from next (drop (i + 1) aimed) (placed_operations (drop (i + 1) ops))
+begins_more ended begins next aimed ops i o e same is after =
+    let more = drop (i + 1) aimed in
+    let rest = placed_operations (drop (i + 1) ops) in
+    begins_step ended aimed ops i o (slice_get_within ops i o e) same
+    ∙ ap (λ b. b ∷ begins_from (ends_block (placed_operation_of (get_or ops i o))) more rest) (sym is)
+    ∙ ap (λ b. begins ∷ begins_from b more rest) (ap (λ x. ends_block (placed_operation_of x)) (get_or_from_slice_get ops i o o e) ∙ sym after)
+
+starts_are : (given : Given) (ended : Bool) (ps : List CodePlace) (ops : List PlacedOp) → map (operation_at given) ps ≡ map (λ o. Some (placed_operation_of o)) ops → begins_from ended (map (has (aimed_places given)) ps) (placed_operations ops) ≡ starts given ended ps
+starts_are given ended [] [] e = refl
+starts_are given ended [] (o ∷ ops) e = absurd cc
+starts_are given ended (p ∷ ps) [] e = absurd cc
+starts_are given ended (p ∷ ps) (o ∷ ops) e =
+    let here : operation_at given p ≡ Some (placed_operation_of o) = cc in
+    let rest : map (operation_at given) ps ≡ map (λ o. Some (placed_operation_of o)) ops = cc in
+    let after : ends_at (operation_at given p) ≡ ends_block (placed_operation_of o) = ap ends_at here in
+    rw (after, starts_are given (ends_block (placed_operation_of o)) ps ops rest) refl
+
+-- ---- numbers
+
+place_of_get : (places : List CodePlace) (k : ℕ) (p : CodePlace) → slice_get places k ≡ Some p → place places k ≡ p
+place_of_get places k p e = ap or_nowhere e
+
+-- the number that is found is that of the place
+pub number_is : (places : List CodePlace) (emitted : List Bool) (numbers : List (Option ℕ)) (p : CodePlace) (at k : ℕ) → AreNumbers places emitted numbers → slice_get places at ≡ Some p → slice_get numbers at ≡ Some (Some k) → IsNumberOf (chosen emitted places) p k
+number_is places emitted numbers p at k are e m =
+    let there = numbered_at emitted places at k p e (ap (λ l. slice_get l at) (sym are.are) ∙ m) in
+    record { is = place_of_get (chosen emitted places) k p there; exists = slice_get_within (chosen emitted places) k p there }
+
+-- where a place is found it is that
+pub found_there : (p : CodePlace) (places : List CodePlace) (at : ℕ) → position (same_place p) places ≡ Some at → slice_get places at ≡ Some p
+found_there p places at e = by_test (nat_lt (position_or_len (same_place p) places) (length places)) refl e
+  where
+    by_test : (b : Bool) → nat_lt (position_or_len (same_place p) places) (length places) ≡ b → cond b (Some (position_or_len (same_place p) places)) None ≡ Some at → slice_get places at ≡ Some p
+    by_test true s e =
+        let n = position_or_len (same_place p) places in
+        let within : n < length places = ltb-true n (length places) s in
+        let same : n ≡ at = cc in
+        let is : p ≡ get_or places n p = place_same p (get_or places n p) (passes_at_first (same_place p) places p within) in
+        subst (λ k. slice_get places k ≡ Some p) same (slice_get-get_or places n p within ∙ ap Some (sym is))
+    by_test false s e = absurd cc
+
+length_numbered : (n : ℕ) (bs : List Bool) → length (numbered n bs) ≡ length bs
+length_numbered n [] = refl
+length_numbered n (b ∷ bs) = ap suc (length_numbered (cond b (n + 1) n) bs)
+
+-- and it has an entry among the numbers
+pub number_within : (places : List CodePlace) (emitted : List Bool) (numbers : List (Option ℕ)) (p : CodePlace) (at : ℕ) → AreNumbers places emitted numbers → position (same_place p) places ≡ Some at → at < length numbers
+number_within places emitted numbers p at are e =
+    let within = slice_get_within places at p (found_there p places at e) in
+    omega (arith, within, are.count, ap length are.are, length_numbered 0 emitted)
+
+pub number_found : (places : List CodePlace) (emitted : List Bool) (numbers : List (Option ℕ)) (p : CodePlace) (at k : ℕ) → AreNumbers places emitted numbers → position (same_place p) places ≡ Some at → get_or numbers at None ≡ Some k → IsNumberOf (chosen emitted places) p k
+number_found places emitted numbers p at k are e m =
+    number_is places emitted numbers p at k are (found_there p places at e) (slice_get-get_or numbers at None (number_within places emitted numbers p at are e) ∙ ap Some m)
+
+-- numbers of places, one after another
+pub numbers_more : (places these : List CodePlace) (now new : List ℕ) (i : ℕ) (p : CodePlace) (number : ℕ) → slice_get these i ≡ Some p → AreNumbersOf places (take i these) now → IsNumberOf places p number → new ≡ now ++ number ∷ [] → AreNumbersOf places (take (i + 1) these) new
+numbers_more places these now new i p number e was is added =
+    rw (added, take_next these i p e) (record {
+      are = map_append (place places) now (number ∷ []) ∙ ap (λ l. l ++ place places number ∷ []) was.are ∙ ap (λ q. take i these ++ q ∷ []) is.is;
+      exist = all_push (λ number. number < length places) now number was.exist is.exists;
+    })
+  where
+    all_push : (P : ℕ → Type 0) (xs : List ℕ) (x : ℕ) → AllByRecursion P xs → P x → AllByRecursion P (xs ++ x ∷ [])
+    all_push P [] x f g = (g, tt)
+    all_push P (y ∷ xs) x f g = (f.0, all_push P xs x f.1 g)
+
+pub numbers_none : (places these : List CodePlace) → AreNumbersOf places (take 0 these) []
+numbers_none places these = record { are = refl; exist = tt }
+
+-- operations with numbers, one after another
+pub operations_more : (places : List CodePlace) (ops : List (Operation CodePlace)) (now new : List SourceOp) (i : ℕ) (op : Operation CodePlace) (numbered_op : SourceOp) → slice_get ops i ≡ Some op
+    → AreNumbered places (take i ops) (map operation_of now) → IsNumbered places op (operation_of numbered_op) → new ≡ now ++ numbered_op ∷ [] → AreNumbered places (take (i + 1) ops) (map operation_of new)
+operations_more places ops now new i op numbered_op e was is added =
+    let more : map operation_of new ≡ map operation_of now ++ operation_of numbered_op ∷ [] = ap (map operation_of) added ∙ map_append operation_of now (numbered_op ∷ []) in
+    rw (more, take_next ops i op e) (record {
+      are = map_append (rename (place places)) (map operation_of now) (operation_of numbered_op ∷ []) ∙ ap (λ l. l ++ rename (place places) (operation_of numbered_op) ∷ []) was.are ∙ ap (λ q. take i ops ++ q ∷ []) is.is;
+      fit = all_push FitsInstructions (map operation_of now) (operation_of numbered_op) was.fit is.fits;
+      targets = all_push (HasTargetIn (length places)) (map operation_of now) (operation_of numbered_op) was.targets is.target;
+    })
+  where
+    all_push : (P : Operation ℕ → Type 0) (xs : List (Operation ℕ)) (x : Operation ℕ) → AllByRecursion P xs → P x → AllByRecursion P (xs ++ x ∷ [])
+    all_push P [] x f g = (g, tt)
+    all_push P (y ∷ xs) x f g = (f.0, all_push P xs x f.1 g)
+
+pub operations_none : (places : List CodePlace) (ops : List (Operation CodePlace)) → AreNumbered places (take 0 ops) (map operation_of [])
+operations_none places ops = record { are = refl; fit = tt; targets = tt }
+
+all_chosen : {X : Type 0} (P : X → Type 0) (bs : List Bool) (xs : List X) → AllByRecursion P xs → AllByRecursion P (chosen bs xs)
+all_chosen P [] xs f = tt
+all_chosen P (b ∷ bs) [] f = tt
+all_chosen P (b ∷ bs) (x ∷ xs) f = by_mark b (all_chosen P bs xs f.1)
+  where
+    by_mark : (b : Bool) → AllByRecursion P (chosen bs xs) → AllByRecursion P (cond b (x ∷ chosen bs xs) (chosen bs xs))
+    by_mark true r = (f.0, r)
+    by_mark false r = r
+
+all_at : {X : Type 0} (P : X → Type 0) (xs : List X) (i : ℕ) (x : X) → AllByRecursion P xs → slice_get xs i ≡ Some x → P x
+all_at P [] i x f e = absurd cc
+all_at P (y ∷ xs) zero x f e = (let same : y ≡ x = cc in subst P same f.0)
+all_at P (y ∷ xs) (suc i) x f e = all_at P xs i x f.1 e
+
+-- those that are listed can be held as all can
+pub chosen_fit : (given : Given) (ps : List CodePlace) (ops : List PlacedOp) (emitted : List Bool) → AreOperations given ps ops → AllByRecursion (λ (o : PlacedOp). FitsInstructions (placed_operation_of o)) (chosen emitted ops)
+chosen_fit given ps ops emitted are = all_chosen (λ (o : PlacedOp). FitsInstructions (placed_operation_of o)) emitted ops are.fit
+
+-- ---- all together
+
+pub record IsList (given : Given) (emitted : List Bool) (ops : List PlacedOp) (lifted : Lifted) : Type 0 where
+  pub places : lifted.places ≡ chosen emitted (all_places given)
+  pub operations : AreNumbered lifted.places (placed_operations (chosen emitted ops)) lifted.ops
+  pub begins : lifted.begins ≡ begins_from true (chosen emitted (map (has (aimed_places given)) (all_places given))) (placed_operations (chosen emitted ops))
+  pub entries : AreNumbersOf lifted.places (entry_places given) lifted.entries
+  pub needed : AreNumbersOf lifted.places (needed_places given) lifted.needed
+  pub map_is : lifted.map ≡ needed_places given
+  pub imports_are : lifted.imports ≡ length given.wanted.imports
+
+pub is_lifted : (given : Given) (emitted : List Bool) (ops : List PlacedOp) (lifted : Lifted) → emitted ≡ map (is_emitted given) (all_places given) → AreOperations given (all_places given) ops → IsList given emitted ops lifted → IsLifted given lifted
+unfolding code_places
+is_lifted given emitted ops lifted marked are list =
+    let ps = all_places given in
+    let out = chosen emitted ps in
+    let chosen_ops = chosen emitted ops in
+    let code : out ≡ code_places given = ap (λ bs. chosen bs ps) marked ∙ chosen_filter (is_emitted given) ps in
+    let same : map (operation_at given) out ≡ map (λ (o : PlacedOp). Some (placed_operation_of o)) chosen_ops =
+    sym (chosen_map (operation_at given) emitted ps) ∙ ap (chosen emitted) are.are ∙ chosen_map (λ (o : PlacedOp). Some (placed_operation_of o)) emitted ops in
+    let count_out : length out ≡ length chosen_ops = sym (length-map out (operation_at given)) ∙ ap length same ∙ length-map chosen_ops (λ (o : PlacedOp). Some (placed_operation_of o)) in
+    let count_ops : length lifted.ops ≡ length chosen_ops = sym (length-map lifted.ops (rename (place lifted.places))) ∙ ap length list.operations.are ∙ length-map chosen_ops placed_operation_of in
+    record {
+      places_are = list.places ∙ code;
+      count = count_ops ∙ sym count_out ∙ sym (ap length list.places);
+      ops_are = λ q op e.
+          let renamed : slice_get (map (rename (place lifted.places)) lifted.ops) q ≡ Some (rename (place lifted.places) op) = slice_get-map (rename (place lifted.places)) lifted.ops q ∙ ap (option_map (rename (place lifted.places))) e in
+          let there : slice_get (placed_operations chosen_ops) q ≡ Some (rename (place lifted.places) op) = sym (ap (λ l. slice_get l q) list.operations.are) ∙ renamed in
+          at_place given lifted.places out chosen_ops q (rename (place lifted.places) op) list.places same there;
+      ops_fit = λ q op e. all_at FitsInstructions lifted.ops q op list.operations.fit e;
+      targets_exist = λ q t op e f. all_at (HasTargetIn (length lifted.places)) lifted.ops q op list.operations.targets e t f;
+      begins_are = list.begins ∙ ap (λ l. begins_from true l (placed_operations chosen_ops)) (chosen_map (has (aimed_places given)) emitted ps) ∙ starts_are given true out chosen_ops same ∙ sym (ap (starts given true) list.places);
+      map_is = list.map_is;
+      imports_are = list.imports_are;
+      entries_are = list.entries.are;
+      entries_exist = λ entry t e. all_at (λ number. number < length lifted.places) lifted.entries entry t list.entries.exist e;
+      needed_are = list.needed.are ∙ sym list.map_is;
+      needed_exist = λ i t e. all_at (λ number. number < length lifted.places) lifted.needed i t list.needed.exist e;
+    }
+  where
+    at_place : (given : Given) (places out : List CodePlace) (ops : List PlacedOp) (q : ℕ) (op : Operation CodePlace) → places ≡ out → map (operation_at given) out ≡ map (λ (o : PlacedOp). Some (placed_operation_of o)) ops → slice_get (placed_operations ops) q ≡ Some op → operation_at given (place places q) ≡ Some op
+    at_place given places out ops q op are same e = rw are (by_list out ops q same e)
+      where
+        by_list : (out : List CodePlace) (ops : List PlacedOp) (q : ℕ) → map (operation_at given) out ≡ map (λ (o : PlacedOp). Some (placed_operation_of o)) ops → slice_get (placed_operations ops) q ≡ Some op → operation_at given (place out q) ≡ Some op
+        by_list [] [] q same e = absurd cc
+        by_list [] (o ∷ ops) q same e = absurd cc
+        by_list (p ∷ out) [] q same e = absurd cc
+        by_list (p ∷ out) (o ∷ ops) zero same e =
+            let here : operation_at given p ≡ Some (placed_operation_of o) = cc in
+            let is : placed_operation_of o ≡ op = cc in
+            here ∙ ap Some is
+        by_list (p ∷ out) (o ∷ ops) (suc q) same e = (let rest : map (operation_at given) out ≡ map (λ (o : PlacedOp). Some (placed_operation_of o)) ops = cc in by_list out ops q rest e)
+
+length_starts : (given : Given) (ended : Bool) (ps : List CodePlace) → length (starts given ended ps) ≡ length ps
+length_starts given ended [] = refl
+length_starts given ended (p ∷ ps) = ap suc (length_starts given (ends_at (operation_at given p)) ps)
+
+-- few operations are in the ranges that are kept of them
+pub in_range : (given : Given) (lifted : Lifted) → IsLifted given lifted → length lifted.places ≤ 2 ^ 28 → length lifted.map ≤ 2 ^ 28 → length lifted.entries ≤ 1000 → IsInRange lifted
+in_range given lifted is few few_needed few_entries = record {
+  count = is.count;
+  marks = ap length is.begins_are ∙ length_starts given true lifted.places;
+  few = few;
+  few_entries = few_entries;
+  few_needed = few_needed;
+  needed_count = sym (length-map lifted.needed (place lifted.places)) ∙ ap length is.needed_are;
+  fits = is.ops_fit;
+  targets = λ q op t e f. omega (arith, is.targets_exist q t op e f, is.count);
+  entries_are = λ entry t e. omega (arith, is.entries_exist entry t e, is.count);
+  needed_are = λ i t e. omega (arith, is.needed_exist i t e, is.count);
+}
+
+-- the numbers of places are as many as these
+pub numbers_len : (places these : List CodePlace) (numbers : List ℕ) → AreNumbersOf places these numbers → length numbers ≡ length these
+numbers_len places these numbers are = sym (length-map numbers (place places)) ∙ ap length are.are
+
+-- the same of equal lists
+pub numbered_as : (ps qs : List CodePlace) (ops others : List (Operation CodePlace)) (numbered : List (Operation ℕ)) → ps ≡ qs → ops ≡ others → AreNumbered ps ops numbered → AreNumbered qs others numbered
+numbered_as ps qs ops others numbered e f are = subst (λ q. AreNumbered q others numbered) e (subst (λ o. AreNumbered ps o numbered) f are)
+
+pub numbers_as : (ps qs these others : List CodePlace) (numbers : List ℕ) → ps ≡ qs → these ≡ others → AreNumbersOf ps these numbers → AreNumbersOf qs others numbers
+numbers_as ps qs these others numbers e f are = subst (λ q. AreNumbersOf q others numbers) e (subst (λ t. AreNumbersOf ps t numbers) f are)

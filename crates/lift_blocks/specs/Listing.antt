@@ -1,0 +1,59 @@
+-- The operations at all places, and those that are listed in code order.
+use Rattle.std.specs.Prelude.{◌≡◌, ℕ, ◌<◌, List, [], ◌∷◌, length, map, Option, Some, Bool, ◌||◌}
+use Rattle.std.specs.List.{AllByRecursion}
+use Rattle.symbols.specs.Wanted.{Given}
+use Rattle.relocs.specs.Places.{CodePlace}
+use Rattle.lift_blocks.specs.declared.placed_op.PlacedOp.{PlacedOp}
+use Rattle.lift_blocks.specs.Operations.{Operation, rename, operation_at}
+use Rattle.lift_blocks.specs.Fits.{FitsInstructions}
+use Rattle.lift_blocks.specs.Listed.{ends_block, target_of, place}
+use Rattle.lift_blocks.specs.Marks.{numbered}
+use Rattle.lift_blocks.specs.Rank.{Ascends}
+use Rattle.lift_blocks.specs.PlacedOps.{placed_operation_of}
+
+-- operations, as those of the source machine
+abbrev pub placed_operations : List PlacedOp → List (Operation CodePlace)
+placed_operations ops = map placed_operation_of ops
+
+-- they are those at these places, and instructions can hold them
+pub record AreOperations (given : Given) (places : List CodePlace) (ops : List PlacedOp) : Type 0 where
+  pub are : map (operation_at given) places ≡ map (λ o. Some (placed_operation_of o)) ops
+  pub fit : AllByRecursion (λ (o : PlacedOp). FitsInstructions (placed_operation_of o)) ops
+
+-- a number names a place of the list
+pub record IsNumberOf (places : List CodePlace) (p : CodePlace) (number : ℕ) : Type 0 where
+  pub is : place places number ≡ p
+  pub exists : number < length places
+
+-- its target, if it has one, is below a count
+abbrev pub HasTargetIn : ℕ → Operation ℕ → Type 0
+HasTargetIn count op = (t : ℕ) → target_of op ≡ Some t → t < count
+
+-- an operation with numbers of places of the list as targets
+pub record IsNumbered (places : List CodePlace) (op : Operation CodePlace) (numbered : Operation ℕ) : Type 0 where
+  pub is : rename (place places) numbered ≡ op
+  pub fits : FitsInstructions numbered
+  pub target : HasTargetIn (length places) numbered
+
+-- which operations begin a block: those that something leads to, and those after the end of one
+abbrev pub begins_from : Bool → List Bool → List (Operation CodePlace) → List Bool
+begins_from ended [] ops = []
+begins_from ended (b ∷ bs) [] = []
+begins_from ended (b ∷ bs) (op ∷ ops) = (ended || b) ∷ begins_from (ends_block op) bs ops
+
+-- places in code order, marks for those that are listed, and the numbers of these
+pub record AreNumbers (places : List CodePlace) (emitted : List Bool) (numbers : List (Option ℕ)) : Type 0 where
+  pub ascend : Ascends places
+  pub count : length emitted ≡ length places
+  pub are : numbers ≡ numbered 0 emitted
+
+-- numbers name these places of the list
+pub record AreNumbersOf (places these : List CodePlace) (numbers : List ℕ) : Type 0 where
+  pub are : map (place places) numbers ≡ these
+  pub exist : AllByRecursion (λ number. number < length places) numbers
+
+-- operations with numbers of places of the list as targets
+pub record AreNumbered (places : List CodePlace) (ops : List (Operation CodePlace)) (numbered : List (Operation ℕ)) : Type 0 where
+  pub are : map (rename (place places)) numbered ≡ ops
+  pub fit : AllByRecursion FitsInstructions numbered
+  pub targets : AllByRecursion (HasTargetIn (length places)) numbered

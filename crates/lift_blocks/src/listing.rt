@@ -1,0 +1,389 @@
+//! The operations in code order, from the operations at all places.
+
+ghost use Rattle.std.specs.Prelude.{◌≡◌, ◌≤◌, ◌^◌, ◌||◌, ◌++◌, not, true, length, map, Some, IfOk};
+ghost use Rattle.std.specs.List.{AllByRecursion, filter_map};
+ghost use Rattle.std.specs.Option.{option_map};
+ghost use Rattle.symbols.specs.Wanted.{Given};
+ghost use Rattle.relocs.specs.AddressMap.{named_places, needed_places};
+ghost use Rattle.relocs.specs.ByOffset.{AreTables};
+ghost use Rattle.relocs.specs.Places.{has};
+ghost use Rattle.relocs.specs.Pairs.{all_places};
+ghost use Rattle.lift_blocks.specs.Fits.{FitsInstructions};
+ghost use Rattle.lift_blocks.specs.Kept.{site_of, operation_of};
+ghost use Rattle.lift_blocks.specs.Known.{AreAll, IsKnown};
+ghost use Rattle.lift_blocks.specs.Listed.{aimed_places, onward_places, entry_places, can_go_on as may_go_on, ends_block as does_end, target_of as the_target, is_emitted, is_end as is_the_end, IsLifted, onward_of};
+ghost use Rattle.lift_blocks.specs.Listing.{AreOperations, AreNumbers, IsNumberOf, AreNumbersOf, IsNumbered, AreNumbered, begins_from, placed_operations};
+ghost use Rattle.lift_blocks.specs.Marks.{chosen as the_chosen, with_marks};
+ghost use Rattle.lift_blocks.specs.Rank.{Ascends};
+ghost use Rattle.lift_blocks.specs.declared.placed_op.PlacedOp.{PlacedOp as ThePlacedOp};
+ghost use Rattle.lift_blocks.specs.Operations.{operation_at};
+ghost use Rattle.lift_blocks.specs.PlacedOps.{placed_operation_of};
+
+use crate::lifted::Lifted;
+use crate::marks::{chosen, mark, mark_any, no_marks, numbered};
+use crate::placed_op::PlacedOp;
+use crate::reader::Reader;
+use crate::search::find;
+use crate::site::Site;
+use crate::source_op::SourceOp;
+use relocs::CodeMap;
+use rv_decode::RvOp;
+use std::alloc::{AllocError, Global};
+
+/// All places with their operations, which of them are needed, and the places of the entries.
+#[derive(Clone, Copy, Drop)]
+pub(crate) struct Survey<'l> {
+    pub places: &'l [Site],
+    pub ops: &'l [PlacedOp],
+    /// Whether a register can lead to each place.
+    pub needed: &'l [bool],
+    pub entries: &'l [Site],
+}
+
+/// The operations in code order, with the beginnings of blocks, by their numbers.
+///
+/// # Errors
+/// Where an allocation fails.
+pub(crate) fn list(
+    alloc: Global,
+    reader: &Reader<'_, '_>,
+    survey: &Survey<'_>,
+    address_map: CodeMap,
+    imports: u32,
+) -> Result<Lifted, AllocError>
+    ghost given: { Given }
+    requires tables { AreTables given reader.now.objects.now reader.now.tables.now }
+    requires places { AreAll given (map site_of survey.now.places.now) }
+    requires ops { AreOperations given (all_places given) survey.now.ops.now }
+    requires needed { survey.now.needed.now ≡ map (has (named_places given)) (all_places given) }
+    requires entries { map site_of survey.now.entries.now ≡ entry_places given }
+    requires few { length survey.now.places.now ≤ 2 ^ 28 }
+    requires few_entries { length survey.now.entries.now ≤ 1000 }
+    requires map { address_map ≡ needed_places given }
+    requires imports { imports ≡ length given.wanted.imports }
+    ensures { IfOk result (IsLifted given) }
+{
+    let aimed = aimed_marks(alloc, survey)?;
+    let emitted = emitted_marks(alloc, reader, survey, &aimed)?;
+    let numbers = numbered(alloc, &emitted)?;
+    let listed = Numbers {
+        places: survey.places,
+        emitted: &emitted,
+        numbers: &numbers,
+    };
+    let ops = chosen(alloc, survey.ops, &emitted)?;
+    let aimed = chosen(alloc, &aimed, &emitted)?;
+    let needed = chosen(alloc, survey.places, survey.needed)?;
+    Ok(Lifted {
+        places: chosen(alloc, survey.places, &emitted)?,
+        ops: listed.operations(alloc, &ops)?,
+        begins: begins(alloc, &ops, &aimed)?,
+        entries: listed.numbers_of(alloc, survey.entries)?,
+        needed: listed.numbers_of(alloc, &needed)?,
+        map: address_map,
+        imports,
+    })
+}
+
+/// Whether each place begins a block wherever it is: as an entry, as a target or as a needed place.
+fn aimed_marks(alloc: Global, survey: &Survey<'_>) -> Result<Vec<bool>, AllocError>
+    ghost given: { Given }
+    requires places { AreAll given (map site_of survey.now.places.now) }
+    requires ops { AreOperations given (all_places given) survey.now.ops.now }
+    requires needed { survey.now.needed.now ≡ map (has (named_places given)) (all_places given) }
+    requires entries { map site_of survey.now.entries.now ≡ entry_places given }
+    ensures { IfOk result (λ marks. marks.items ≡ map (has (aimed_places given)) (all_places given)) }
+{
+    let needed = chosen(alloc, survey.places, survey.needed)?;
+    let mut marks = no_marks(alloc, survey.places)?;
+    mark_aimed(
+        survey.places,
+        &mut marks,
+        survey.entries,
+        survey.ops,
+        &needed,
+    );
+    Ok(marks)
+}
+
+/// Marks entries, the targets of operations and needed places.
+#[tactic(auto, using(crate::proofs::Uses::fold_append))]
+fn mark_aimed(
+    places: &[Site],
+    marks: &mut [bool],
+    entries: &[Site],
+    ops: &[PlacedOp],
+    needed: &[Site],
+)
+    requires ascends { Ascends (map site_of places.now) }
+    requires count { length marks.old ≡ length places.now }
+    ensures { marks.new ≡ with_marks (map site_of places.now) marks.old (map site_of entries.now ++ filter_map the_target (placed_operations ops.now) ++ map site_of needed.now) }
+{
+    mark_all(places, marks, entries);
+    mark_targets(places, marks, ops);
+    mark_all(places, marks, needed);
+}
+
+/// Marks places, where they are among these.
+fn mark_all(places: &[Site], marks: &mut [bool], these: &[Site])
+    requires ascends { Ascends (map site_of places.now) }
+    requires count { length marks.old ≡ length places.now }
+    ensures { marks.new ≡ with_marks (map site_of places.now) marks.old (map site_of these.now) }
+{
+    for at in 0..these.len() {
+        mark(places, marks, these[at]);
+    }
+}
+
+/// Marks the targets of operations.
+fn mark_targets(places: &[Site], marks: &mut [bool], ops: &[PlacedOp])
+    requires ascends { Ascends (map site_of places.now) }
+    requires count { length marks.old ≡ length places.now }
+    ensures { marks.new ≡ with_marks (map site_of places.now) marks.old (filter_map the_target (placed_operations ops.now)) }
+{
+    for at in 0..ops.len() {
+        mark_any(places, marks, target_of(ops[at]));
+    }
+}
+
+/// The target of an operation, where it names one.
+fn target_of(op: PlacedOp) -> Option<Site>
+    ensures { option_map site_of result ≡ the_target (placed_operation_of op) }
+{
+    match op {
+        PlacedOp::Branch { target, .. }
+        | PlacedOp::Jal { target, .. }
+        | PlacedOp::Pair { target, .. } => Some(target),
+        PlacedOp::Plain(_) | PlacedOp::Jalr { .. } | PlacedOp::Host(_) | PlacedOp::Sbrk => None,
+    }
+}
+
+/// Which places are listed: all but the ends of sections to which nothing leads.
+fn emitted_marks(
+    alloc: Global,
+    reader: &Reader<'_, '_>,
+    survey: &Survey<'_>,
+    aimed: &[bool],
+) -> Result<Vec<bool>, AllocError>
+    ghost given: { Given }
+    requires tables { AreTables given reader.now.objects.now reader.now.tables.now }
+    requires places { AreAll given (map site_of survey.now.places.now) }
+    requires ops { AreOperations given (all_places given) survey.now.ops.now }
+    requires aimed { aimed.now ≡ map (has (aimed_places given)) (all_places given) }
+    ensures { IfOk result (λ marks. marks.items ≡ map (is_emitted given) (all_places given)) }
+{
+    let mut reached = Vec::new(alloc);
+    reached.extend_from_slice(aimed)?;
+    mark_onward(reader, survey.places, &mut reached, survey.ops);
+    kept_marks(alloc, reader, survey.places, &reached)
+}
+
+/// Which places are listed, by which are reached.
+fn kept_marks(
+    alloc: Global,
+    reader: &Reader<'_, '_>,
+    places: &[Site],
+    reached: &[bool],
+) -> Result<Vec<bool>, AllocError>
+    ghost given: { Given }
+    requires tables { AreTables given reader.now.objects.now reader.now.tables.now }
+    requires places { AreAll given (map site_of places.now) }
+    requires reached { reached.now ≡ map (has (aimed_places given ++ onward_places given)) (all_places given) }
+    ensures { IfOk result (λ marks. marks.items ≡ map (is_emitted given) (all_places given)) }
+{
+    let mut emitted = Vec::with_capacity(alloc, places.len())?;
+    for at in 0..places.len() {
+        emitted.push(unless_end(is_end(reader, places[at]), reached[at]))?;
+    }
+    Ok(emitted)
+}
+
+fn unless_end(end: bool, reached: bool) -> bool
+    ensures { result ≡ (not end || reached) }
+{
+    !end || reached
+}
+
+/// Marks the places that the operation before can go on to.
+fn mark_onward(reader: &Reader<'_, '_>, places: &[Site], marks: &mut [bool], ops: &[PlacedOp])
+    ghost given: { Given }
+    requires tables { AreTables given reader.now.objects.now reader.now.tables.now }
+    requires places { AreAll given (map site_of places.now) }
+    requires ops { AreOperations given (all_places given) ops.now }
+    requires count { length marks.old ≡ length places.now }
+    ensures { marks.new ≡ with_marks (all_places given) marks.old (onward_places given) }
+{
+    for at in 0..places.len() {
+        mark_any(places, marks, onward(reader, places[at], ops[at]));
+    }
+}
+
+/// The place after an operation, where the machine can go on to it.
+fn onward(reader: &Reader<'_, '_>, place: Site, op: PlacedOp) -> Option<Site>
+    ghost given: { Given }
+    requires tables { AreTables given reader.now.objects.now reader.now.tables.now }
+    requires known { IsKnown given (site_of place) }
+    requires op { operation_at given (site_of place) ≡ Some (placed_operation_of op) }
+    ensures { option_map site_of result ≡ onward_of given (site_of place) }
+{
+    if can_go_on(op) {
+        Some(reader.next_place(place))
+    } else {
+        None
+    }
+}
+
+/// Whether the machine can go on to the place after an operation.
+fn can_go_on(op: PlacedOp) -> bool
+    ensures { result ≡ may_go_on (placed_operation_of op) }
+{
+    match op {
+        PlacedOp::Plain(op) => !matches!(op, RvOp::Trap),
+        PlacedOp::Branch { .. } | PlacedOp::Host(_) | PlacedOp::Sbrk => true,
+        PlacedOp::Jal { .. } | PlacedOp::Jalr { .. } | PlacedOp::Pair { .. } => false,
+    }
+}
+
+/// Whether a block ends with an operation.
+fn ends_block(op: PlacedOp) -> bool
+    ensures { result ≡ does_end (placed_operation_of op) }
+{
+    match op {
+        PlacedOp::Plain(op) => matches!(op, RvOp::Trap),
+        PlacedOp::Branch { .. }
+        | PlacedOp::Jal { .. }
+        | PlacedOp::Jalr { .. }
+        | PlacedOp::Pair { .. } => true,
+        PlacedOp::Host(_) | PlacedOp::Sbrk => false,
+    }
+}
+
+/// Whether a place is the end of a section.
+fn is_end(reader: &Reader<'_, '_>, place: Site) -> bool
+    ghost given: { Given }
+    requires tables { AreTables given reader.now.objects.now reader.now.tables.now }
+    requires known { IsKnown given (site_of place) }
+    ensures { result ≡ is_the_end given (site_of place) }
+{
+    match place {
+        Site::Code {
+            object,
+            section,
+            offset,
+        } => offset == reader.objects.object(object).section(section).content.len() as u64,
+        Site::Stub { .. } => false,
+    }
+}
+
+/// Which of the listed operations begin a block.
+fn begins(alloc: Global, ops: &[PlacedOp], aimed: &[bool]) -> Result<Vec<bool>, AllocError>
+    requires { length aimed.now ≡ length ops.now }
+    ensures { IfOk result (λ begins. begins.items ≡ begins_from true aimed.now (placed_operations ops.now)) }
+{
+    let mut begins = Vec::with_capacity(alloc, ops.len())?;
+    let mut ended = true;
+    for at in 0..ops.len() {
+        begins.push(either(ended, aimed[at]))?;
+        ended = ends_block(ops[at]);
+    }
+    Ok(begins)
+}
+
+fn either(ended: bool, aimed: bool) -> bool
+    ensures { result ≡ (ended || aimed) }
+{
+    ended || aimed
+}
+
+/// All places, which of them are listed, and the numbers of these.
+#[derive(Clone, Copy, Drop)]
+struct Numbers<'l> {
+    places: &'l [Site],
+    emitted: &'l [bool],
+    numbers: &'l [Option<u32>],
+}
+
+impl Numbers<'_> {
+    /// The number of a place among the listed ones.
+    ///
+    /// # Errors
+    /// Where the place isn't listed.
+    fn number_of(&self, place: Site) -> Result<u32, AllocError>
+        requires { AreNumbers (map site_of self.now.places.now) self.now.emitted.now self.now.numbers.now }
+        ensures { IfOk result (IsNumberOf (the_chosen self.now.emitted.now (map site_of self.now.places.now)) (site_of place)) }
+    {
+        let Some(at) = find(self.places, place) else {
+            return Err(AllocError);
+        };
+        match self.numbers[at] {
+            Some(number) => Ok(number),
+            None => Err(AllocError),
+        }
+    }
+
+    /// The numbers of places.
+    fn numbers_of(&self, alloc: Global, these: &[Site]) -> Result<Vec<u32>, AllocError>
+        requires { AreNumbers (map site_of self.now.places.now) self.now.emitted.now self.now.numbers.now }
+        ensures { IfOk result (λ found. AreNumbersOf (the_chosen self.now.emitted.now (map site_of self.now.places.now)) (map site_of these.now) found.items) }
+    {
+        let mut found = Vec::with_capacity(alloc, these.len())?;
+        for at in 0..these.len() {
+            found.push(self.number_of(these[at])?)?;
+        }
+        Ok(found)
+    }
+
+    /// Operations with numbers as targets.
+    fn operations(&self, alloc: Global, ops: &[PlacedOp]) -> Result<Vec<SourceOp>, AllocError>
+        requires numbers { AreNumbers (map site_of self.now.places.now) self.now.emitted.now self.now.numbers.now }
+        requires fit { AllByRecursion (λ (o : ThePlacedOp). FitsInstructions (placed_operation_of o)) ops.now }
+        ensures { IfOk result (λ found. AreNumbered (the_chosen self.now.emitted.now (map site_of self.now.places.now)) (placed_operations ops.now) (map operation_of found.items)) }
+    {
+        let mut found = Vec::with_capacity(alloc, ops.len())?;
+        for at in 0..ops.len() {
+            found.push(self.operation(ops[at])?)?;
+        }
+        Ok(found)
+    }
+
+    /// An operation with the number of its target.
+    fn operation(&self, op: PlacedOp) -> Result<SourceOp, AllocError>
+        requires numbers { AreNumbers (map site_of self.now.places.now) self.now.emitted.now self.now.numbers.now }
+        requires fit { FitsInstructions (placed_operation_of op) }
+        ensures { IfOk result (λ found. IsNumbered (the_chosen self.now.emitted.now (map site_of self.now.places.now)) (placed_operation_of op) (operation_of found)) }
+    {
+        Ok(match op {
+            PlacedOp::Plain(op) => SourceOp::Plain(op),
+            PlacedOp::Branch {
+                cond,
+                rs1,
+                rs2,
+                target,
+            } => SourceOp::Branch {
+                cond,
+                rs1,
+                rs2,
+                target: self.number_of(target)?,
+            },
+            PlacedOp::Jal { rd, link, target } => SourceOp::Jal {
+                rd,
+                link,
+                target: self.number_of(target)?,
+            },
+            PlacedOp::Jalr { rd, rs1, imm, link } => SourceOp::Jalr { rd, rs1, imm, link },
+            PlacedOp::Pair {
+                temp,
+                rd,
+                link,
+                target,
+            } => SourceOp::Pair {
+                temp,
+                rd,
+                link,
+                target: self.number_of(target)?,
+            },
+            PlacedOp::Host(number) => SourceOp::Host(number),
+            PlacedOp::Sbrk => SourceOp::Sbrk,
+        })
+    }
+}

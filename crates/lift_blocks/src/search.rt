@@ -1,0 +1,122 @@
+//! Where a place stands among all places.
+
+ghost use Rattle.std.specs.Prelude.{◌≡◌, map, nat_lt};
+ghost use Rattle.std.specs.List.{position};
+ghost use Rattle.relocs.specs.Places.{same_place};
+ghost use Rattle.lift_blocks.specs.Kept.{site_of};
+ghost use Rattle.lift_blocks.specs.Rank.{rank_of, code_rank as the_code_rank, Ascends};
+
+use crate::site::Site;
+
+/// The index of a place among those in order.
+pub(crate) fn find(places: &[Site], place: Site) -> Option<usize>
+    requires { Ascends (map site_of places.now) }
+    ensures { result ≡ position (same_place (site_of place)) (map site_of places.now) }
+{
+    let mut low = 0;
+    let mut high = places.len();
+    while low < high {
+        let middle = low + (high - low) / 2;
+        if is_before(places[middle], place) {
+            low = middle + 1;
+        } else {
+            high = middle;
+        }
+    }
+    if low < places.len() && is_same(place, places[low]) {
+        Some(low)
+    } else {
+        None
+    }
+}
+
+/// Whether a place stands before another.
+#[tactic(auto, unfolding(crate::specs::Rank::rank_of))]
+fn is_before(a: Site, b: Site) -> bool
+    ensures { result ≡ nat_lt (rank_of (site_of a)) (rank_of (site_of b)) }
+{
+    match (a, b) {
+        (
+            Site::Code {
+                object,
+                section,
+                offset,
+            },
+            Site::Code {
+                object: other_object,
+                section: other_section,
+                offset: other_offset,
+            },
+        ) => code_rank(object, section, offset)
+            < code_rank(other_object, other_section, other_offset),
+        (
+            Site::Code {
+                object,
+                section,
+                offset,
+            },
+            Site::Stub { .. },
+        ) => {
+            let _rank = code_rank(object, section, offset);
+            true
+        }
+        (
+            Site::Stub { .. },
+            Site::Code {
+                object,
+                section,
+                offset,
+            },
+        ) => {
+            let _rank = code_rank(object, section, offset);
+            false
+        }
+        (
+            Site::Stub { number, at },
+            Site::Stub {
+                number: other_number,
+                at: other_at,
+            },
+        ) => {
+            2 * u64::from(number) + u64::from(at)
+                < 2 * u64::from(other_number) + u64::from(other_at)
+        }
+    }
+}
+
+/// Where a place of code stands in code order.
+#[tactic(auto, unfolding(crate::specs::Rank::code_rank))]
+fn code_rank(object: u32, section: u32, offset: u64) -> u128
+    ensures { result ≡ the_code_rank object section offset }
+{
+    (u128::from(object) * 0x1_0000_0000 + u128::from(section)) * 0x1_0000_0000_0000_0000
+        + u128::from(offset)
+}
+
+/// Whether two places are one.
+fn is_same(a: Site, b: Site) -> bool
+    ensures { result ≡ same_place (site_of a) (site_of b) }
+{
+    match (a, b) {
+        (
+            Site::Code {
+                object,
+                section,
+                offset,
+            },
+            Site::Code {
+                object: other_object,
+                section: other_section,
+                offset: other_offset,
+            },
+        ) => object == other_object && section == other_section && offset == other_offset,
+        (
+            Site::Stub { number, at },
+            Site::Stub {
+                number: other_number,
+                at: other_at,
+            },
+        ) => number == other_number && at == other_at,
+        _ => false,
+    }
+}
