@@ -102,13 +102,13 @@ pieces_are_aimed lifted begin ops h = rw (pieces_are lifted.needed ops (one_is_a
 
 -- the pieces are a cut
 pub lowered_is_cut : LoweredIsCut
-lowered_is_cut given lifted h = record {
+lowered_is_cut given lifted h calls = record {
   carries = λ k p e. all_at (Carries (op_does lifted.needed) (instr_does lifted.needed) IsState) (pieces lifted) k p carried e;
   aims = λ k p e s g. all_at (λ (p : Piece (Operation ℕ) Aimed). (s : State) → IsAimed lifted (needed_begin given lifted h) (does (op_does lifted.needed) p.ops s)) (pieces lifted) k p aimed e s;
 }
   where
     carried : AllByRecursion (Carries (op_does lifted.needed) (instr_does lifted.needed) IsState) (pieces lifted)
-    carried = all_joined _ (block_pieces lifted.needed) (IsWellBlock lifted) (blocks lifted.begins lifted.ops) (λ ops b. blocks_are_carried lifted.needed ops (all_can lifted ops b.each) b.front b.some) (blocks_are_well given lifted h)
+    carried = all_joined _ (block_pieces lifted.needed) (IsWellBlock lifted) (blocks lifted.begins lifted.ops) (λ ops b. blocks_are_carried lifted.needed ops (all_can lifted ops b.each) b.front b.some) (blocks_are_well given lifted h calls)
 
     aimed : AllByRecursion (λ (p : Piece (Operation ℕ) Aimed). (s : State) → IsAimed lifted (needed_begin given lifted h) (does (op_does lifted.needed) p.ops s)) (pieces lifted)
-    aimed = all_joined _ (block_pieces lifted.needed) (IsWellBlock lifted) (blocks lifted.begins lifted.ops) (λ ops b. pieces_are_aimed lifted (needed_begin given lifted h) ops b) (blocks_are_well given lifted h)
+    aimed = all_joined _ (block_pieces lifted.needed) (IsWellBlock lifted) (blocks lifted.begins lifted.ops) (λ ops b. pieces_are_aimed lifted (needed_begin given lifted h) ops b) (blocks_are_well given lifted h calls)

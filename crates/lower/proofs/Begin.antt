@@ -11,10 +11,13 @@ use Rattle.runs.specs.Groups.{parts}
 use Rattle.runs.proofs.Groups.{joined_parts, pieces_ops, group_ops, group_op_place}
 use Rattle.runs.proofs.Blocks.{blocks_joined, block_begins, block_stands}
 use Rattle.symbols.specs.Wanted.{Given}
-use Rattle.relocs.specs.Places.{CodePlace, Code, Stub, Nowhere, all_places, same_place, has}
+use Rattle.relocs.specs.Places.{CodePlace, same_place, has}
+use Rattle.relocs.specs.Pairs.{all_places}
 use Rattle.relocs.specs.AddressMap.{needed_places}
 use Rattle.lift_blocks.specs.Operations.{Operation, operation_at}
 use Rattle.lift_blocks.specs.Listed.{Lifted, IsLifted, entry_places, target_at, aimed_places, ends_at, starts, place, or_nowhere}
+use Rattle.lift_blocks.proofs.Order.{place_self}
+use Rattle.lower.proofs.Lists.{is_listed}
 use Rattle.lower.specs.Cutting.{block_pieces, groups, pieces, first_piece}
 use Rattle.lower.specs.Lowering.{is_call, lower_block}
 use Rattle.lower.specs.Laws.{BlocksAreAll, EntriesBegin, BlocksStand}
@@ -42,18 +45,12 @@ or_true : (b : Bool) → (b || true) ≡ true
 or_true true = refl
 or_true false = refl
 
--- a place is the same as itself
-same_self : (p : CodePlace) → same_place p p ≡ true
-same_self (Code o s offset) = rw (eq-eqb o o refl, eq-eqb s s refl, eq-eqb offset offset refl) refl
-same_self (Stub n at) = rw (eq-eqb n n refl, eq-eqb at at refl) refl
-same_self Nowhere = refl
-
 -- what stands in a list is among it
 has_there : (ps : List CodePlace) (k : ℕ) (p : CodePlace) → slice_get ps k ≡ Some p → has ps p ≡ true
 has_there [] k p e = absurd cc
 has_there (q ∷ ps) zero p e =
     let same : q ≡ p = cc in
-    rw (same, same_self p) refl
+    rw (same, place_self p) refl
 has_there (q ∷ ps) (suc k) p e = rw (has_there ps k p e) (or_true (same_place p q))
 
 -- what is among one list is among it with another behind
@@ -85,10 +82,7 @@ place_there places these numbers k t e at = ap (λ l. slice_get l k) (sym e) ∙
 -- a number whose place is aimed at begins a block
 pub number_begins : (given : Given) (lifted : Lifted) → IsLifted given lifted → (t : ℕ) → t < length lifted.places → has (aimed_places given) (place lifted.places t) ≡ true → op_place (pieces lifted) (first_piece lifted (block_of lifted.begins t)) ≡ t
 number_begins given lifted h t stands aimed =
-    let p = get_or lifted.places t Nowhere in
-    let there : slice_get lifted.places t ≡ Some p = slice_get-get_or lifted.places t Nowhere stands in
-    let is : place lifted.places t ≡ p = ap or_nowhere there in
-    begins_at given lifted h t p there (ap (has (aimed_places given)) (sym is) ∙ aimed)
+    begins_at given lifted h t (place lifted.places t) (is_listed lifted.places t stands) aimed
 
 -- the places that jumps and branches lead to
 abbrev targets : Given → List CodePlace
@@ -99,14 +93,14 @@ pub entries_begin : EntriesBegin
 entries_begin given lifted h entry t e =
     let p = place lifted.places t in
     let named = has_there (entry_places given) entry p (place_there lifted.places (entry_places given) lifted.entries entry t h.entries_are e) in
-    number_begins given lifted h t (h.entries_stand entry t e) (has_front (entry_places given ++ targets given) (needed_places given) p (has_front (entry_places given) (targets given) p named))
+    number_begins given lifted h t (h.entries_exist entry t e) (has_front (entry_places given ++ targets given) (needed_places given) p (has_front (entry_places given) (targets given) p named))
 
 -- a place of the address map begins a block
 pub needed_begin : (given : Given) (lifted : Lifted) → IsLifted given lifted → (i t : ℕ) → slice_get lifted.needed i ≡ Some t → op_place (pieces lifted) (first_piece lifted (block_of lifted.begins t)) ≡ t
 needed_begin given lifted h i t e =
     let p = place lifted.places t in
-    let named = has_there (needed_places given) i p (place_there lifted.places (needed_places given) lifted.needed i t h.needed_are e) in
-    number_begins given lifted h t (h.needed_stand i t e) (has_back (entry_places given ++ targets given) (needed_places given) p named)
+    let named = has_there (needed_places given) i p (place_there lifted.places (needed_places given) lifted.needed i t (h.needed_are ∙ h.map_is) e) in
+    number_begins given lifted h t (h.needed_exist i t e) (has_back (entry_places given ++ targets given) (needed_places given) p named)
 
 -- each operation stands in a block of the list
 pub blocks_stand : BlocksStand

@@ -27,8 +27,9 @@ use Rattle.lift_blocks.specs.Step.{plain_does}
 use Rattle.pvm_ops.specs.declared.instr.Instr.{Instr}
 use Rattle.pvm_machine.specs.Effect.{effect}
 use Rattle.pvm_machine.proofs.Opcodes as opcode
+use Rattle.lift_blocks.specs.Fits.{IsOperand}
 use Rattle.lower.specs.Instructions.{rrx, rrr, load_imm, move_reg, add_imm_32, set_lt_u_imm, set_lt_s_imm, neg_add_imm_32, set_gt_u_imm, set_gt_s_imm, neg_add_imm_64}
-use Rattle.lower.specs.Plain.{alu_imm_opcode, alu_opcode, with_second_zero, with_first_zero, lower_plain, IsOperand, IsLowerable}
+use Rattle.lower.specs.Plain.{alu_imm_opcode, alu_opcode, with_second_zero, with_first_zero, lower_plain, IsLowerable}
 use Rattle.lower.proofs.Rows.{sum_zero_r, sub_zero_r, or_zero, xor_zero, shlo_l_zero_r, shlo_r_zero_r, shar_r_zero_r, and_zero, mul_zero_r, upper_s_s_zero_r, upper_s_u_zero_r, upper_u_u_zero_r, mul_32_zero_r, less_zero, sub_32_zero_r, rem_32_zero_r, shlo_l_32_zero_r, shlo_r_32_zero_r, shar_r_32_zero_r, sum_zero_l, zero_shlo_l, zero_shlo_r, zero_shar_r, zero_mul, zero_upper_s_s, zero_upper_s_u, zero_upper_u_u, zero_mul_32, zero_add_32, zero_rem_s, zero_rem_u, zero_rem_s_32, zero_rem_u_32, zero_shlo_l_32, zero_shlo_r_32, zero_shar_r_32, zero_div_u, zero_div_s, zero_div_u_32, zero_div_s_32}
 use Rattle.lower.proofs.Accesses.{lowers_load, lowers_store}
 use Rattle.lower.proofs.Single.{and_no_more, LowersOp, run_alone, few_aimed}

@@ -27,8 +27,9 @@ use Rattle.pvm_ops.specs.Opcodes.{is_known, form_of}
 use Rattle.pvm_ops.specs.Fetch.{trap}
 use Rattle.pvm_ops.specs.Spelling.{IsShort}
 use Rattle.jump_table.specs.Laws.{IsPlainInstr}
+use Rattle.lift_blocks.specs.Fits.{IsOperand}
 use Rattle.lower.specs.Instructions.{rx, rr, rrx, rrr, xy, rxy, fallthrough, jump_ind, load_imm, move_reg, add_imm_32, set_lt_u_imm, neg_add_imm_64}
-use Rattle.lower.specs.Plain.{alu_imm_opcode, alu_opcode, load_opcode, load_ind_opcode, store_opcode, store_ind_opcode, store_imm_opcode, store_imm_ind_opcode, with_second_zero, with_first_zero, lower_plain, IsOperand, IsLowerable}
+use Rattle.lower.specs.Plain.{alu_imm_opcode, alu_opcode, load_opcode, load_ind_opcode, store_opcode, store_ind_opcode, store_imm_opcode, store_imm_ind_opcode, with_second_zero, with_first_zero, lower_plain, IsLowerable}
 use Rattle.lower.proofs.Immediates.{wider, word_fits, operand_is_signed}
 use Rattle.lower.proofs.Rows.{sum_zero_l, zero_shlo_l, zero_shlo_r, zero_shar_r, zero_shlo_l_32, zero_shlo_r_32, zero_shar_r_32}
 

@@ -26,7 +26,8 @@ use Rattle.blob_check.specs.Starts.{is_terminator}
 use Rattle.jump_table.specs.Laws.{IsPlaceable, IsPlainInstr, is_some}
 use Rattle.lower.specs.Instructions.{rro, rxo, jump, load_imm_jump, fallthrough, jump_ind, load_imm}
 use Rattle.lower.specs.Lowering.{branch_opcode, branch_zero_opcode, zero_branch_opcode, jump_if, jump_with, jump_to, jump_by_register, clears_if, lower_op, target_if, aim_of}
-use Rattle.lower.specs.Laws.{IsLink, IsEnding, EndingsArePlaceable}
+use Rattle.lift_blocks.specs.Fits.{IsLink}
+use Rattle.lower.specs.Laws.{IsEnding, EndingsArePlaceable}
 use Rattle.lower.proofs.Encodable.{short, trap_is_plain, fallthrough_is_plain, rx_is_plain, load_imm_is_plain}
 
 -- a number below 2^31 is the sign extension of its low 32 bits

@@ -6,7 +6,7 @@ use Rattle.rv_decode.specs.declared.ops.AluImm.TheVariants.{Addi, Slti, Sltiu, X
 use Rattle.rv_decode.specs.declared.ops.RvOp.TheVariants as rv
 use Rattle.rv_decode.specs.Operations.{IsSigned, IsAmount, IsImmediate}
 use Rattle.lower.specs.Laws.{WordsAreLowerable}
-use Rattle.lower.specs.Plain.{IsOperand}
+use Rattle.lift_blocks.specs.Fits.{IsOperand}
 
 -- an immediate is a word
 pub word_fits : (imm : ℤ) → IsSigned 32 imm → word_of imm < 2 ^ 64

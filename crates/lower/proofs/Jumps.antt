@@ -25,7 +25,8 @@ use Rattle.pvm_machine.proofs.Opcodes as opcode
 use Rattle.lower.specs.Instructions.{rro, rxo}
 use Rattle.lower.specs.Lowering.{branch_opcode, branch_zero_opcode, zero_branch_opcode, jump_if, jump_with, jump_to, jump_by_register, clears_if, pair, lower_op, target_if, aim_of}
 use Rattle.lower.specs.Cutting.{or_zero, aimed, instr_does}
-use Rattle.lower.specs.Laws.{IsLink, AllAreLowered}
+use Rattle.lift_blocks.specs.Fits.{IsLink}
+use Rattle.lower.specs.Laws.{AllAreLowered}
 use Rattle.lower.proofs.Single.{and_no_more, LowersOp}
 use Rattle.lower.proofs.Effects.{jump_no_call, jump_stays, lowers_plain}
 

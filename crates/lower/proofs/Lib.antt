@@ -19,3 +19,6 @@ pub mod Lifted
 pub mod Well
 pub mod Plain
 pub mod Aims
+pub mod FirstBlock
+pub mod Numbering
+pub mod Building

@@ -2,6 +2,8 @@
 use Rattle.std.proofs.Common.{◌≡◌, ℕ, zero, suc, ◌<◌, Bool, true, false, List, [], ◌∷◌, ◌++◌, length, map, Some, refl, subst, arith}
 use Rattle.std.specs.Prelude.{slice_get}
 use Rattle.std.specs.List.{AllByRecursion}
+use Rattle.relocs.specs.Places.{CodePlace}
+use Rattle.lift_blocks.specs.Listed.{place}
 use Rattle.runs.specs.Joined.{joined}
 use Rattle.runs.specs.Blocks.{begins_first, with_first, blocks}
 
@@ -53,3 +55,9 @@ blocks_all P (b ∷ bs) (x ∷ xs) h = with_first_all P (begins_first bs) x (blo
 pub all_joined : {A B : Type 0} (P : B → Type 0) (f : A → List B) (Q : A → Type 0) (xs : List A) → ((x : A) → Q x → AllByRecursion P (f x)) → AllByRecursion Q xs → AllByRecursion P (joined (map f xs))
 all_joined P f Q [] h q = tt
 all_joined P f Q (x ∷ xs) h q = all_append P (f x) (joined (map f xs)) (h x q.0) (all_joined P f Q xs h q.1)
+
+-- the place of a number below the count is listed
+pub is_listed : (places : List CodePlace) (q : ℕ) → q < length places → slice_get places q ≡ Some (place places q)
+is_listed [] q lt = absurd (omega (arith, lt))
+is_listed (p ∷ places) zero lt = refl
+is_listed (p ∷ places) (suc q) lt = is_listed places q (omega (arith, lt))

@@ -36,7 +36,7 @@ last_same (x ∷ f) (y ∷ g) a b e = last_same f g a b cc
 
 -- the list can be placed, and each block is ended
 pub lowered_is_placeable : LoweredIsPlaceable
-lowered_is_placeable given lifted h = (record { instrs = instrs; blocks = each; targets = targets; entries = entries; needed = needed }, ended)
+lowered_is_placeable given lifted h calls = (record { instrs = instrs; blocks = each; targets = targets; entries = entries; needed = needed }, ended)
   where
     all : List (List (Operation ℕ))
     all = blocks lifted.begins lifted.ops
@@ -45,12 +45,12 @@ lowered_is_placeable given lifted h = (record { instrs = instrs; blocks = each; 
     bs = map (lower_block lifted.needed lifted.begins) (blocks lifted.begins lifted.ops)
 
     instrs : (number : ℕ) (i : Instr) → slice_get (instrs_of (lowered_blocks lifted)) number ≡ Some i → IsPlaceable i
-    instrs number i e = all_at IsPlaceable (instrs_of (lowered_blocks lifted)) number i (all_placeable lifted (blocks lifted.begins lifted.ops) (blocks_are_well given lifted h)) e
+    instrs number i e = all_at IsPlaceable (instrs_of (lowered_blocks lifted)) number i (all_placeable lifted (blocks lifted.begins lifted.ops) (blocks_are_well given lifted h calls)) e
 
     well : (block : ℕ) (b : Block) → slice_get bs block ≡ Some b → (ops : List (Operation ℕ)) × (lower_block lifted.needed lifted.begins ops ≡ b) × IsWellBlock lifted ops
     well block b e =
         let from = from_map (lower_block lifted.needed lifted.begins) all block b e in
-        (from.x, from.is, all_at (IsWellBlock lifted) all block from.x (blocks_are_well given lifted h) from.there)
+        (from.x, from.is, all_at (IsWellBlock lifted) all block from.x (blocks_are_well given lifted h calls) from.there)
 
     own : (ops : List (Operation ℕ)) → IsWellBlock lifted ops → IsPlacedBlock (block_instrs lifted.needed ops) (option_map (block_of lifted.begins) (aim_of_last lifted.needed ops))
     own ops w = blocks_are_placeable lifted.needed lifted.begins ops (all_can lifted ops w.each) w.front w.some
@@ -81,9 +81,9 @@ lowered_is_placeable given lifted h = (record { instrs = instrs; blocks = each; 
     entries : (entry block : ℕ) → slice_get (map (block_of lifted.begins) lifted.entries) entry ≡ Some block → block < length bs
     entries entry block e =
         let from = from_map (block_of lifted.begins) lifted.entries entry block e in
-        rw (← from.is) (stands from.x (h.entries_stand entry from.x from.there))
+        rw (← from.is) (stands from.x (h.entries_exist entry from.x from.there))
 
     needed : (place block : ℕ) → slice_get (map (block_of lifted.begins) lifted.needed) place ≡ Some block → block < length bs
     needed place block e =
         let from = from_map (block_of lifted.begins) lifted.needed place block e in
-        rw (← from.is) (stands from.x (h.needed_stand place from.x from.there))
+        rw (← from.is) (stands from.x (h.needed_exist place from.x from.there))

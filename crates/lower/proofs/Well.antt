@@ -15,11 +15,11 @@ use Rattle.lift_blocks.specs.Operations.{Operation, Plain, Branch, Jal, Jalr, Pa
 use Rattle.lift_blocks.specs.Listed.{Lifted, IsLifted, target_of}
 use Rattle.lower.specs.Lowering.{target_if, aim_of, aim_of_last}
 use Rattle.lower.specs.Cutting.{pieces, first_piece}
-use Rattle.lower.specs.Laws.{CanBeLowered, FrontGoesOn}
+use Rattle.lower.specs.Laws.{CanBeLowered, CallsNoHost, FrontGoesOn}
 use Rattle.lower.proofs.Lists.{all_from_places, IsBlockOf, blocks_all}
 use Rattle.lower.proofs.Lifted.{lifted_can_be}
 use Rattle.lower.proofs.Fronts.{fronts_go_on}
-use Rattle.lower.proofs.Targets.{target_begins, target_stands}
+use Rattle.lower.proofs.Targets.{target_begins}
 
 -- an operation of a lifted list
 pub record IsWell (lifted : Lifted) (op : Operation ℕ) : Type 0 where
@@ -53,11 +53,11 @@ aim_stands needed count (Pair temp rd link target) t first second e = first t e
 aim_stands needed count (HostCall number) t first second e = absurd cc
 aim_stands needed count Sbrk t first second e = absurd cc
 
-lifted_is_well : (given : Given) (lifted : Lifted) → IsLifted given lifted → (q : ℕ) (op : Operation ℕ) → slice_get lifted.ops q ≡ Some op → IsWell lifted op
-lifted_is_well given lifted h q op e = record {
-  can = lifted_can_be given lifted h q op e;
+lifted_is_well : (given : Given) (lifted : Lifted) → IsLifted given lifted → CallsNoHost lifted → (q : ℕ) (op : Operation ℕ) → slice_get lifted.ops q ≡ Some op → IsWell lifted op
+lifted_is_well given lifted h calls q op e = record {
+  can = lifted_can_be given lifted h calls q op e;
   begins = λ t f. target_begins given lifted h q t op e f;
-  stands = λ t f. aim_stands lifted.needed (length lifted.places) op t (λ u g. target_stands given lifted h q u op e g) h.needed_stand f;
+  stands = λ t f. aim_stands lifted.needed (length lifted.places) op t (λ u g. h.targets_exist q u op e g) h.needed_exist f;
 }
 
 -- a block of them
@@ -70,8 +70,8 @@ well_blocks : (lifted : Lifted) (ws : List (List (Operation ℕ))) → AllByRecu
 well_blocks lifted [] h f = tt
 well_blocks lifted (w ∷ ws) h f = (record { each = h.0.0; some = h.0.1; front = f.0 }, well_blocks lifted ws h.1 f.1)
 
-pub blocks_are_well : (given : Given) (lifted : Lifted) → IsLifted given lifted → AllByRecursion (IsWellBlock lifted) (blocks lifted.begins lifted.ops)
-blocks_are_well given lifted h = well_blocks lifted (blocks lifted.begins lifted.ops) (blocks_all (IsWell lifted) lifted.begins lifted.ops (all_from_places (IsWell lifted) lifted.ops (lifted_is_well given lifted h))) (fronts_go_on given lifted h)
+pub blocks_are_well : (given : Given) (lifted : Lifted) → IsLifted given lifted → CallsNoHost lifted → AllByRecursion (IsWellBlock lifted) (blocks lifted.begins lifted.ops)
+blocks_are_well given lifted h calls = well_blocks lifted (blocks lifted.begins lifted.ops) (blocks_all (IsWell lifted) lifted.begins lifted.ops (all_from_places (IsWell lifted) lifted.ops (lifted_is_well given lifted h calls))) (fronts_go_on given lifted h)
 
 pub all_can : (lifted : Lifted) (ops : List (Operation ℕ)) → AllByRecursion (IsWell lifted) ops → AllByRecursion CanBeLowered ops
 all_can lifted [] h = tt

@@ -1,21 +1,20 @@
 -- The laws of lowering that the link rests on.
-use Rattle.std.specs.Prelude.{◌≡◌, ℕ, ◌<◌, ◌^◌, List, [], ◌∷◌, length, map, Bool, true, false, Option, Some, slice_get}
+use Rattle.std.specs.Prelude.{◌≡◌, ℕ, ◌<◌, List, [], ◌∷◌, length, map, Bool, true, false, Option, Some, slice_get}
 use Rattle.std.specs.Option.{option_map}
 use Rattle.std.specs.List.{AllByRecursion}
 use Rattle.rv_decode.specs.declared.ops.RvOp.{RvOp}
 use Rattle.rv_decode.specs.declared.ops.RvOp.TheVariants as rv
-use Rattle.rv_decode.specs.Operations.{IsOp, IsReg, IsSigned}
+use Rattle.rv_decode.specs.Operations.{IsOp}
 use Rattle.runs.specs.Machine.{Outcome, does}
 use Rattle.runs.specs.Blocks.{block_of}
 use Rattle.runs.specs.Pieces.{Cut, Carries, Lowers, all_ops, all_instrs, op_place, instr_place}
 use Rattle.machine_state.specs.State.{State, IsState}
 use Rattle.machine_state.specs.Ends.{End}
 use Rattle.symbols.specs.Wanted.{Given}
-use Rattle.rv_decode.specs.declared.ops.Reg.{Reg}
-use Rattle.rv_decode.specs.declared.ops.Reg.TheVariants.{Zero, R}
-use Rattle.lift_blocks.specs.Operations.{Operation, Plain, Branch, Jal, Jalr, Pair, HostCall, Sbrk}
+use Rattle.lift_blocks.specs.Operations.{Operation, Plain, HostCall, Sbrk}
 use Rattle.lift_blocks.specs.Step.{plain_does, op_does}
 use Rattle.lift_blocks.specs.Listed.{Lifted, IsLifted, ends_block}
+use Rattle.lift_blocks.specs.Fits.{FitsInstructions}
 use Rattle.jump_table.specs.Assembly.{members_of, first_of}
 use Rattle.blob_check.specs.Starts.{is_terminator}
 use Rattle.jump_table.specs.Laws.{IsPlaceable, IsBlock, IsAssemblable, AreEnded}
@@ -48,21 +47,11 @@ OperationsAreLowered =
     (needed : List ℕ) (op : RvOp) → IsLowerable op
     → Lowers (op_does needed) (instr_does needed) IsState (aimed_op needed) (Plain op)
 
--- a link that an instruction can hold, if there is one
-abbrev pub IsLink : Reg → ℕ → Type 0
-IsLink Zero link = Unit {0}
-IsLink (R d) link = link < 2 ^ 31
-
--- an operation that can be lowered: none of a stub, with registers that the PVM has, and links of 31 bits
+-- an operation that instructions can hold, and no call of the host
 abbrev pub CanBeLowered : {Target : Type 0} → Operation Target → Type 0
-CanBeLowered (Plain op) = IsLowerable op
-CanBeLowered (Branch cond rs1 rs2 target) = IsReg rs1 × IsReg rs2
-CanBeLowered (Jal rd link target) = IsReg rd × IsLink rd link
-CanBeLowered (Jalr rd Zero imm link) = IsReg rd × IsSigned 12 imm × IsLink rd link
-CanBeLowered (Jalr rd (R a) imm link) = IsReg rd × (a < 13) × IsSigned 32 imm × IsLink rd link
-CanBeLowered (Pair temp rd link target) = IsReg temp × IsReg rd × IsLink rd link
 CanBeLowered (HostCall number) = ⊥
 CanBeLowered Sbrk = ⊥
+CanBeLowered op = FitsInstructions op
 
 -- its instructions, with its target, do what it does, are three at most, and keep the state good
 abbrev pub AllAreLowered : Type 0
@@ -101,10 +90,20 @@ BlocksArePlaceable =
     (needed : List ℕ) (begins : List Bool) (ops : List (Operation ℕ)) → AllByRecursion CanBeLowered ops → FrontGoesOn ops → 0 < length ops
     → IsPlacedBlock (block_instrs needed ops) (option_map (block_of begins) (aim_of_last needed ops))
 
+-- the call that an import stands for
+abbrev pub is_import_call : {Target : Type 0} → Operation Target → Bool
+is_import_call (HostCall number) = true
+is_import_call Sbrk = true
+is_import_call op = false
+
+-- none of the operations is such a call: their lowering is not supported yet
+abbrev pub CallsNoHost : Lifted → Type 0
+CallsNoHost lifted = (q : ℕ) (op : Operation ℕ) → slice_get lifted.ops q ≡ Some op → is_import_call op ≡ false
+
 -- Each block's instructions do what its operations do, at most four begun for each, and jumps lead to blocks.
 abbrev pub LoweredIsCut : Type 0
 LoweredIsCut =
-    (given : Given) (lifted : Lifted) → IsLifted given lifted
+    (given : Given) (lifted : Lifted) → IsLifted given lifted → CallsNoHost lifted
     → Cut (op_does lifted.needed) (instr_does lifted.needed) IsState (pieces lifted) (λ t. t) (instr_places lifted)
 
 -- the blocks together are the operations in code order
@@ -136,4 +135,4 @@ SamePlaces = (lifted : Lifted) (block : ℕ) → instr_place (pieces lifted) (fi
 
 -- the list of blocks can be placed, and each block's last instruction ends it
 abbrev pub LoweredIsPlaceable : Type 0
-LoweredIsPlaceable = (given : Given) (lifted : Lifted) → IsLifted given lifted → IsAssemblable (lowered_blocks lifted) × AreEnded (lowered_blocks lifted)
+LoweredIsPlaceable = (given : Given) (lifted : Lifted) → IsLifted given lifted → CallsNoHost lifted → IsAssemblable (lowered_blocks lifted) × AreEnded (lowered_blocks lifted)

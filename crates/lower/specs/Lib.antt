@@ -2,4 +2,5 @@ pub mod Instructions
 pub mod Plain
 pub mod Lowering
 pub mod Cutting
+pub mod Building
 pub mod Laws

@@ -1,5 +1,5 @@
 -- The instructions of an operation that is no jump and no branch.
-use Rattle.std.specs.Prelude.{ℕ, ◌-◌, ◌^◌, ℤ, List, [], ◌∷◌, take}
+use Rattle.std.specs.Prelude.{ℕ, ◌-◌, ◌^◌, List, [], ◌∷◌, take}
 use Rattle.numbers.specs.Words.{word_of}
 use Rattle.arithmetic.specs.Operations.{binary}
 use Rattle.rv_decode.specs.declared.ops.Reg.TheVariants.{Zero, R}
@@ -13,8 +13,8 @@ use Rattle.rv_decode.specs.declared.ops.Alu.{Alu}
 use Rattle.rv_decode.specs.declared.ops.Alu.TheVariants.{Add, Sub, Sll, Slt, Sltu, Xor, Srl, Sra, Or, And, Mul, Mulh, Mulhsu, Mulhu, Div, Divu, Rem, Remu, Addw, Subw, Sllw, Srlw, Sraw, Mulw, Divw, Divuw, Remw, Remuw}
 use Rattle.rv_decode.specs.declared.ops.RvOp.{RvOp}
 use Rattle.rv_decode.specs.declared.ops.RvOp.TheVariants as rv
-use Rattle.rv_decode.specs.Operations.{IsReg, IsWritten, IsSigned, IsAmount}
 use Rattle.lift_blocks.specs.Arithmetic.{of_alu_imm, of_alu}
+use Rattle.lift_blocks.specs.Fits.{PlainFits}
 use Rattle.pvm_ops.specs.declared.instr.Instr.{Instr}
 use Rattle.pvm_ops.specs.Fetch.{trap}
 use Rattle.lower.specs.declared.forms.Three.{Three}
@@ -200,28 +200,9 @@ lower_plain (rv.Op op (R d) (R a) (R b)) = rrr (alu_opcode op) d a b ∷ []
 lower_plain rv.Trap = trap ∷ []
 lower_plain op = []
 
--- an immediate of 32 bits, or an amount to shift by
-abbrev pub IsOperand : AluImm → ℤ → Type 0
-IsOperand Slli imm = IsAmount 64 imm
-IsOperand Srli imm = IsAmount 64 imm
-IsOperand Srai imm = IsAmount 64 imm
-IsOperand Slliw imm = IsAmount 32 imm
-IsOperand Srliw imm = IsAmount 32 imm
-IsOperand Sraiw imm = IsAmount 32 imm
-IsOperand op imm = IsSigned 32 imm
-
--- An operation that can be lowered alone: no jump and no branch, with registers that the PVM has, and with immediates
--- of 32 bits, as relocations leave them.
+-- an operation that can be lowered alone: no jump and no branch, and one that instructions can hold
 abbrev pub IsLowerable : RvOp → Type 0
-IsLowerable (rv.Lui rd value) = IsReg rd × IsSigned 32 value
-IsLowerable (rv.Auipc rd value) = IsReg rd × IsSigned 32 value
-IsLowerable (rv.Load width rd rs1 imm) = IsWritten rd × IsReg rs1 × IsSigned 32 imm
-IsLowerable (rv.Store width rs1 rs2 imm) = IsReg rs1 × IsReg rs2 × IsSigned 32 imm
-IsLowerable (rv.OpImm op rd rs1 imm) = IsReg rd × IsReg rs1 × IsOperand op imm
-IsLowerable (rv.Op op rd rs1 rs2) = IsReg rd × IsReg rs1 × IsReg rs2
-IsLowerable rv.Fence = Unit {0}
-IsLowerable rv.Trap = Unit {0}
-IsLowerable op = ⊥
+IsLowerable op = PlainFits op
 
 -- at most three instructions, with the trap, which is all zero, in the places that are not used
 abbrev pub three_of : List Instr → Three

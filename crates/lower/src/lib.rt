@@ -1,17 +1,21 @@
 //! Lowering: the instructions of operations, and of each block of them.
 //!
-//! So far an operation that is no jump and no branch is lowered by itself, and blocks are definitions, with the law
-//! that a block's instructions do what its operations do.
+//! `lower` gives the blocks of a program, and its laws say that the instructions of a block do what its operations do.
+//! Each operation is lowered by itself.
 #![tactic(auto)]
 
 ghost use Rattle.lower.specs.Laws.{WordsAreLowerable, OperationsAreLowered, AllAreLowered, EndingsArePlaceable, BlocksAreCarried, BlocksArePlaceable, LoweredIsCut, BlocksAreAll, EntriesBegin, BlocksStand, SameInstrs, SamePlaces, LoweredIsPlaceable};
 
+mod block;
 mod forms;
 mod operations;
+mod program;
 mod tables;
+mod transfers;
 
 pub use forms::Three;
 pub use operations::lower_operation;
+pub use program::lower;
 
 /// A word's operation can be lowered by itself, unless it is a jump or a branch, and the instructions of such an
 /// operation do what it does. So do those of jumps and branches, which can be placed with their offsets.

@@ -180,13 +180,13 @@ fn with_first_zero(op: Alu, d: u8, b: u8) -> Three
 }
 
 /// An immediate as the word that it is extended to.
-fn word(imm: i32) -> u64
+pub(crate) fn word(imm: i32) -> u64
     ensures { result ≡ word_of imm }
 {
     i64::from(imm).cast_unsigned()
 }
 
-fn load_imm(a: u8, x: u64) -> Instr
+pub(crate) fn load_imm(a: u8, x: u64) -> Instr
     ensures { result ≡ load_imm a x }
 {
     rx(LOAD_IMM, a, x)

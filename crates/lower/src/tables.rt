@@ -3,10 +3,11 @@
 
 ghost use Rattle.std.specs.Prelude.{◌≡◌};
 ghost use Rattle.lift_blocks.specs.Arithmetic.{of_alu, of_alu_imm};
+ghost use Rattle.lower.specs.Lowering.{branch_opcode, branch_zero_opcode, zero_branch_opcode};
 ghost use Rattle.lower.specs.Plain.{alu_imm_opcode, alu_opcode, load_ind_opcode, load_opcode, store_imm_ind_opcode, store_imm_opcode, store_ind_opcode, store_opcode};
 
 use arithmetic::Binary;
-use rv_decode::{Alu, AluImm, LoadWidth, StoreWidth};
+use rv_decode::{Alu, AluImm, Cond, LoadWidth, StoreWidth};
 
 /// What an operation on a register and an immediate computes.
 pub(crate) fn alu_imm_binary(op: AluImm) -> Binary
@@ -197,5 +198,47 @@ pub(crate) fn store_imm_ind_opcode(width: StoreWidth) -> u8
         StoreWidth::Sh => 71,
         StoreWidth::Sw => 72,
         StoreWidth::Sd => 73,
+    }
+}
+
+/// The opcode of a branch on two registers.
+pub(crate) fn branch_opcode(cond: Cond) -> u8
+    ensures { result ≡ branch_opcode cond }
+{
+    match cond {
+        Cond::Eq => 170,
+        Cond::Ne => 171,
+        Cond::Lt => 173,
+        Cond::Ge => 175,
+        Cond::Ltu => 172,
+        Cond::Geu => 174,
+    }
+}
+
+/// The opcode of a branch on a register and x0.
+pub(crate) fn branch_zero_opcode(cond: Cond) -> u8
+    ensures { result ≡ branch_zero_opcode cond }
+{
+    match cond {
+        Cond::Eq => 81,
+        Cond::Ne => 82,
+        Cond::Lt => 87,
+        Cond::Ge => 89,
+        Cond::Ltu => 83,
+        Cond::Geu => 85,
+    }
+}
+
+/// The opcode of a branch on x0 and a register, by the comparison of the register with 0.
+pub(crate) fn zero_branch_opcode(cond: Cond) -> u8
+    ensures { result ≡ zero_branch_opcode cond }
+{
+    match cond {
+        Cond::Eq => 81,
+        Cond::Ne => 82,
+        Cond::Lt => 90,
+        Cond::Ge => 88,
+        Cond::Ltu => 86,
+        Cond::Geu => 84,
     }
 }

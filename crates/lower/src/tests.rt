@@ -1,6 +1,6 @@
 ghost use Rattle.std.specs.Prelude.{◌≡◌};
 ghost use Rattle.rv_decode.specs.Operations.{IsReg};
-ghost use Rattle.lower.specs.Plain.{IsOperand};
+ghost use Rattle.lift_blocks.specs.Fits.{IsOperand};
 
 use super::*;
 use crate::forms::{all_three, none, one, rr, rrr, rrx, rx, rxy, two, xy};

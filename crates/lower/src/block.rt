@@ -1,0 +1,108 @@
+//! The instructions of one block, added to a list of blocks.
+
+ghost use Rattle.std.specs.Prelude.{◌≡◌, ◌<◌, ◌≤◌, ◌^◌, length, slice_range, IfSome, OnOk};
+ghost use Rattle.std.specs.Option.{option_map};
+ghost use Rattle.runs.specs.Blocks.{block_of};
+ghost use Rattle.runs.specs.Pieces.{lowered};
+ghost use Rattle.lift_blocks.specs.Kept.{operation_of};
+ghost use Rattle.lift_blocks.specs.Listed.{ends_block, target_of};
+ghost use Rattle.lower.specs.Building.{AreBlockNumbers, aimed_at, extended, one_if, with_block};
+ghost use Rattle.lower.specs.Lowering.{aim_of, lower_block, lower_op, tail_if};
+ghost use Rattle.lower.specs.Plain.{listed};
+
+use crate::forms::Three;
+use crate::transfers::{ends_block, fallthrough, instructions, target};
+use lift_blocks::{Lifted, SourceOp};
+use pvm_ops::{Blocks, Instr};
+use std::alloc::AllocError;
+
+/// Adds the block of the operations from one number up to another, where the next begins.
+pub(crate) fn lower_block(
+    blocks: &mut Blocks,
+    lifted: &Lifted,
+    numbers: &[u32],
+    from: u32,
+    to: u32,
+) -> Result<(), AllocError>
+    requires room { length blocks.old.blocks < 2 ^ 30 }
+    requires some { from < to }
+    requires within { to ≤ length lifted.now.ops }
+    requires numbers { AreBlockNumbers lifted.now numbers.now }
+    ensures { OnOk result (blocks.new ≡ with_block (lower_block lifted.now.needed lifted.now.begins (slice_range lifted.now.ops from to)) blocks.old) }
+{
+    blocks.begin()?;
+    add_operations(blocks, lifted, from, to)?;
+    let last = lifted.operation(to - 1);
+    end_block(blocks, lifted, numbers, &last)?;
+    Ok(())
+}
+
+/// Adds the instructions of these operations to the last block.
+fn add_operations(
+    blocks: &mut Blocks,
+    lifted: &Lifted,
+    from: u32,
+    to: u32,
+) -> Result<(), AllocError>
+    requires some { 0 < length blocks.old.blocks }
+    requires order { from ≤ to }
+    requires within { to ≤ length lifted.now.ops }
+    ensures { OnOk result (blocks.new ≡ extended (lowered (lower_op lifted.now.needed) (slice_range lifted.now.ops from to)) blocks.old) }
+{
+    for at in from..to {
+        let op = lifted.operation(at);
+        push_all(blocks, &instructions(lifted, &op))?;
+    }
+    Ok(())
+}
+
+/// Ends the last block with its last operation: with a fallthrough, where that does not end it, and with its target.
+fn end_block(
+    blocks: &mut Blocks,
+    lifted: &Lifted,
+    numbers: &[u32],
+    last: &SourceOp,
+) -> Result<(), AllocError>
+    requires some { 0 < length blocks.old.blocks }
+    requires numbers { AreBlockNumbers lifted.now numbers.now }
+    requires target { IfSome (target_of (operation_of last.now)) (λ t. t < length lifted.now.ops) }
+    ensures { OnOk result (blocks.new ≡ aimed_at (option_map (block_of lifted.now.begins) (aim_of lifted.now.needed (operation_of last.now))) (extended (tail_if (ends_block (operation_of last.now))) blocks.old)) }
+{
+    push_if(blocks, !ends_block(last), fallthrough())?;
+    aim(blocks, lifted, numbers, target(lifted, last));
+    Ok(())
+}
+
+/// Gives the last block its target, the block of an operation, if there is one.
+fn aim(blocks: &mut Blocks, lifted: &Lifted, numbers: &[u32], target: Option<u32>)
+    requires some { 0 < length blocks.old.blocks }
+    requires numbers { AreBlockNumbers lifted.now numbers.now }
+    requires target { IfSome target (λ t. t < length lifted.now.ops) }
+    ensures { blocks.new ≡ aimed_at (option_map (block_of lifted.now.begins) target) blocks.old }
+{
+    if let Some(target) = target {
+        blocks.aim(numbers[target as usize]);
+    }
+}
+
+/// Adds the instructions of an operation to the last block.
+fn push_all(blocks: &mut Blocks, three: &Three) -> Result<(), AllocError>
+    requires { 0 < length blocks.old.blocks }
+    ensures { OnOk result (blocks.new ≡ extended (listed three.now) blocks.old) }
+{
+    push_if(blocks, three.count > 0, three.first)?;
+    push_if(blocks, three.count > 1, three.second)?;
+    push_if(blocks, three.count > 2, three.third)?;
+    Ok(())
+}
+
+/// Adds an instruction to the last block, where it is wanted.
+fn push_if(blocks: &mut Blocks, wanted: bool, instr: Instr) -> Result<(), AllocError>
+    requires { 0 < length blocks.old.blocks }
+    ensures { OnOk result (blocks.new ≡ extended (one_if wanted instr) blocks.old) }
+{
+    if wanted {
+        blocks.push(instr)?;
+    }
+    Ok(())
+}
