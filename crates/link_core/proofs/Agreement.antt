@@ -24,7 +24,8 @@ use Rattle.machine_state.specs.Laws.{StartIsGood}
 use Rattle.symbols.specs.Wanted.{Given}
 use Rattle.relocs.specs.AddressMap.{needed_places}
 use Rattle.lift_blocks.specs.Listed.{Lifted, IsLifted, place, or_nowhere, entry_places}
-use Rattle.link_core.proofs.EntryPlaces.{count as entries_count}
+use Rattle.std.proofs.lemmas.List.FromFn.{length-map-range_with_len}
+use Rattle.link_core.proofs.NoCalls.{no_calls}
 use Rattle.lift_blocks.specs.Step.{op_does, fetch_op}
 use Rattle.lift_blocks.specs.Laws.{SourceLock, BoundsStay}
 use Rattle.pvm_ops.specs.Listing.{Listing, is_marked}
@@ -37,7 +38,7 @@ use Rattle.jump_table.specs.Assembly.{entry_len, jump, offset, instr_position, s
 use Rattle.jump_table.specs.Laws.{IsAssemblable, AreEnded, AreLengths, IsPlaced, CodeIsPlaced, FoursAreWide}
 use Rattle.lower.specs.Lowering.{lowered_blocks}
 use Rattle.lower.specs.Cutting.{pieces, first_piece, instr_does, instr_places}
-use Rattle.lower.specs.Laws.{LoweredIsCut, BlocksAreAll, EntriesBegin, BlocksStand, SameInstrs, SamePlaces, LoweredIsPlaceable}
+use Rattle.lower.specs.Laws.{LoweredIsCut, BlocksAreAll, EntriesBegin, BlocksStand, SameInstrs, SamePlaces, LoweredIsPlaceable, CallsNoHost}
 use Rattle.link_core.specs.Hosts.{start_host, answers, HostFits}
 use Rattle.link_core.specs.Runs.{source_run, machine_run, image_of}
 use Rattle.link_core.specs.Agrees.{Agrees}
@@ -63,7 +64,7 @@ start_within code at e = marked_within code at (first_true _ _ (first_true _ _ e
 
 module _ (source_lock : SourceLock) (bounds_stay : BoundsStay) (cut : LoweredIsCut) (blocks_are_all : BlocksAreAll) (entries_begin : EntriesBegin) (blocks_stand : BlocksStand) (same_instrs : SameInstrs)
     (same_places : SamePlaces) (is_placeable : LoweredIsPlaceable) (is_placed : CodeIsPlaced) (fours_are_wide : FoursAreWide) (renamed : EffectIsRenamed) (no_target : EffectIsPlain) (named : EffectIsNamed) (of_target : EffectIsOfTarget) (to_target : EffectIsAimed) (start_is_good : StartIsGood) where
-  module _ (given : Given) (lengths : List ℕ) (lifted : Lifted) (is_lifted : IsLifted given lifted) (lengths_are : AreLengths (lowered_blocks lifted) lengths) (small : length (code_of lengths (lowered_blocks lifted)).bytes < 2 ^ 31) where
+  module _ (given : Given) (lengths : List ℕ) (lifted : Lifted) (is_lifted : IsLifted given lifted) (calls : CallsNoHost lifted) (lengths_are : AreLengths (lowered_blocks lifted) lengths) (small : length (code_of lengths (lowered_blocks lifted)).bytes < 2 ^ 31) where
     abbrev list : BlockList
     list = lowered_blocks lifted
 
@@ -71,10 +72,10 @@ module _ (source_lock : SourceLock) (bounds_stay : BoundsStay) (cut : LoweredIsC
     code = code_of lengths list
 
     assemblable : IsAssemblable list
-    assemblable = (is_placeable given lifted is_lifted).0
+    assemblable = (is_placeable given lifted is_lifted calls).0
 
     ended : AreEnded list
-    ended = (is_placeable given lifted is_lifted).1
+    ended = (is_placeable given lifted is_lifted calls).1
 
     placed : IsPlaced lengths list code
     placed = is_placed lengths list assemblable (fours_are_wide lengths list lengths_are small) small
@@ -95,13 +96,13 @@ module _ (source_lock : SourceLock) (bounds_stay : BoundsStay) (cut : LoweredIsC
 
     laid : Laid (instr_does lifted.needed) (does_at (table_of lengths list) code) (all_instrs (pieces lifted)) (instr_places lifted) (instr_position lengths list) (instr_at code)
     laid = code_lock lengths list code assemblable ended placed renamed no_target named of_target to_target (all_instrs (pieces lifted)) (block_of lifted.begins) (same_instrs lengths lifted) (instr_places lifted) start_same
-        lifted.needed (table_of lengths list) (table_same lifted.needed) (λ i t e. starts t (is_lifted.needed_stand i t e))
+        lifted.needed (table_of lengths list) (table_same lifted.needed) (λ i t e. starts t (is_lifted.needed_exist i t e))
 
     ops_laid : Laid (op_does lifted.needed) (op_does (needed_places given)) (all_ops (pieces lifted)) (λ t. t) (place lifted.places) (fetch_op given)
     ops_laid = subst (λ ops. Laid (op_does lifted.needed) (op_does (needed_places given)) ops (λ t. t) (place lifted.places) (fetch_op given)) (sym (blocks_are_all given lifted is_lifted)) (source_lock given lifted is_lifted)
 
     is_cut : Cut (op_does lifted.needed) (instr_does lifted.needed) IsState (pieces lifted) (λ t. t) (instr_places lifted)
-    is_cut = cut given lifted is_lifted
+    is_cut = cut given lifted is_lifted calls
 
     back : (at to : ℕ) → at < 2 ^ 31 → to < 2 ^ 31 → sum_64 at (offset at to) ≡ to
     back at to a b = omega arith
@@ -124,7 +125,7 @@ module _ (source_lock : SourceLock) (bounds_stay : BoundsStay) (cut : LoweredIsC
           let from = entry_len * entry in
           let to = start_of lengths list k in
           let i = jump (offset from to) in
-          let starts_there : is_start code to ≡ true = block_starts t (is_lifted.entries_stand entry t e) in
+          let starts_there : is_start code to ≡ true = block_starts t (is_lifted.entries_exist entry t e) in
           let within : to < length code.bytes = start_within code to starts_there in
           let marked_there : from < length code.bytes = marked_within code from f.marked in
           let target : sum_64 from (offset from to) ≡ to = back from to (omega arith) (omega arith) in
@@ -151,12 +152,12 @@ module _ (source_lock : SourceLock) (bounds_stay : BoundsStay) (cut : LoweredIsC
 
     agrees_all : Agrees given (container_of given lengths lifted)
     agrees_all serve well entry argument replies lt few are =
-        let same : length lifted.entries ≡ length given.wanted.entries = sym (length-map lifted.entries (place lifted.places)) ∙ ap length is_lifted.entries_are ∙ entries_count given in
+        let same : length lifted.entries ≡ length given.wanted.entries = sym (length-map lifted.entries (place lifted.places)) ∙ ap length is_lifted.entries_are ∙ length-map-range_with_len _ 0 (length given.wanted.entries) in
         let heap_bound = (start_state (image_of given) argument).heap_bound in
         agrees_from (answers serve) (HostFits heap_bound) (answers_well heap_bound serve (well heap_bound)) (start_host replies) entry (get_or lifted.entries entry 0) argument (start_fits (image_of given) argument replies are) (slice_get-get_or lifted.entries entry 0 (omega arith)) few
 
   -- the law of the link
   pub linked_agrees : LinkedAgrees
-  linked_agrees given c linked =
+  linked_agrees given c supported linked =
       let small : length (code_of linked.lengths (lowered_blocks linked.lifted)).bytes < 2 ^ 31 = (let h = rw linked.container_is at linked.small in omega arith) in
-      rw linked.container_is (agrees_all given linked.lengths linked.lifted linked.is_lifted linked.lengths_are small)
+      rw linked.container_is (agrees_all given linked.lengths linked.lifted linked.is_lifted (no_calls given supported linked.lifted linked.is_lifted) linked.lengths_are small)

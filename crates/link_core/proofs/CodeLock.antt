@@ -24,7 +24,6 @@ use Rattle.jump_table.proofs.Blocks.{member_has}
 use Rattle.lower.specs.Cutting.{Aimed, or_zero, instr_does}
 use Rattle.lower.specs.Laws.{InBlock}
 use Rattle.lower.proofs.Lists.{from_map}
-use Rattle.link_core.proofs.StraightBuilt.{mapped_none}
 
 -- a jump to where blocks start lands
 pub lands : (starts : ℕ → Bool) (name : ℕ → ℕ) (table : List ℕ) (o : Outcome ℕ State End) → IsNamed table o → ((i t : ℕ) → slice_get table i ≡ Some t → starts (name t) ≡ true) → land starts (retarget name o) ≡ retarget name o
@@ -32,6 +31,10 @@ lands starts name table (Next s) h k = refl
 lands starts name table (Jump t s) h k = rw (k h.0 t h.1) refl
 lands starts name table (Call number s) h k = refl
 lands starts name table (Ends end) h k = refl
+
+mapped_none : {X Y : Type 0} (f : X → Y) (x : Option X) → option_map f x ≡ None → x ≡ None
+mapped_none f None e = refl
+mapped_none f (Some x) e = absurd cc
 
 -- the machine goes on where it stands
 goes_same : (x : ℕ) (o : Outcome ℕ State End) → GoesOn x x o

@@ -1,10 +1,9 @@
--- Steps of a link: the sums of bytes, the jumps of entries, and what is told of files.
+-- Steps of a link: the objects of files, and their faults.
 use Rattle.std.proofs.Common.{◌≡◌, ℕ, zero, suc, ◌+◌, ◌-◌, ◌*◌, ◌^◌, ◌<◌, ◌≤◌, List, [], ◌∷◌, ◌++◌, length, take, get_or, Option, Some, None, refl, sym, ap, ◌∙◌, arith}
 use Rattle.std.specs.Prelude.{slice_get, map, IsSomeAnd, Result, Ok, Err, MatchResult}
 use Rattle.std.specs.Result.{IsErrAnd}
 use Rattle.std.specs.List.{filter_map, cons_option}
 use Rattle.std.specs.Option.{option_map}
-use Rattle.std.proofs.lemmas.Option.{slice_get-get_or}
 use Rattle.faults.specs.Present.{each_below, first_in}
 use Rattle.faults.proofs.Heads.{none_in}
 use Rattle.elf_objects.specs.Objects.{Object}
@@ -14,51 +13,10 @@ use Rattle.elf_objects.specs.declared.fault.Refusal.{Refusal}
 use Rattle.elf_objects.specs.declared.fault.ObjectFault.{ObjectFault}
 use Rattle.elf_objects.specs.declared.fault.ObjectFault.TheVariants.{Bad, Memory}
 use Rattle.elf_objects.proofs.Records.{object_of-faulty}
-use Rattle.jump_table.specs.Assembly.{jump, offset}
-use Rattle.pvm_ops.specs.declared.instr.Instr.{Instr}
-use Rattle.link_core.specs.Assembling.{Marked, empty, append}
 use Rattle.link_core.specs.Faults.{faults_in_file, object_faults, Refuses as LinkRefuses}
 use Rattle.link_core.specs.LinkFaults.{of_object}
 use Rattle.link_core.specs.declared.link_fault.LinkFault.{LinkFault}
-use Rattle.link_core.specs.Straight.{jumps_to}
 use Rattle.faults.proofs.Steps.{first_in-map, first_in-found, each_below-more}
-use Rattle.link_core.proofs.Placing.{append-append}
-
--- the offset forward is the difference
-pub offset-forward : (from to : ℕ) → from ≤ to → to ≤ 2 ^ 25 → offset from to ≡ to - from
-offset-forward from to le small = omega (arith, le, small)
-
--- one more jump stands behind those of the positions before
-pub jumps-more : (from : ℕ) (ps : List ℕ) (at p : ℕ) → slice_get ps at ≡ Some p → jumps_to from (take (suc at) ps) ≡ jumps_to from (take at ps) ++ (jump (offset (from + 5 * at) p) ∷ [])
-jumps-more from [] at p e = absurd cc
-jumps-more from (q ∷ ps) zero p e =
-    let same : q ≡ p = cc in
-    let here : from + 0 ≡ from = omega arith in
-    rw (same, here) refl
-jumps-more from (q ∷ ps) (suc at) p e =
-    let there : from + 5 * suc at ≡ from + 5 + 5 * at = omega arith in
-    rw there (ap (λ l. jump (offset from q) ∷ l) (jumps-more (from + 5) ps at p e))
-
--- positions that stand behind the jumps of all entries
-abbrev pub Behind : List ℕ → Type 0
-Behind ps = (at : ℕ) (position : ℕ) → slice_get ps at ≡ Some position → (5 * length ps ≤ position) × (position ≤ 2 ^ 25)
-
-pub behind-at : (ps : List ℕ) (at : ℕ) → Behind ps → at < length ps → (5 * at ≤ get_or ps at 0) × (get_or ps at 0 ≤ 2 ^ 25)
-behind-at ps at behind lt = (let here = behind at _ (slice_get-get_or ps at 0 lt) in (omega (arith, here.0, lt), here.1))
-
-pub jumps-step : (ps : List ℕ) (at more : ℕ) (i : Instr) (code new : Marked) → more ≡ at + 1 → at < length ps → Behind ps → i ≡ jump (get_or ps at 0 - 5 * at) → code ≡ append empty (jumps_to 0 (take at ps)) → new ≡ append code (i ∷ []) → new ≡ append empty (jumps_to 0 (take more ps))
-jumps-step ps at more i code new one lt behind is before here =
-    let there = behind-at ps at behind lt in
-    let p = get_or ps at 0 in
-    let next : suc at ≡ more = omega (arith, one) in
-    let zero_at : 5 * at ≡ 0 + 5 * at = omega arith in
-    let forward : i ≡ jump (offset (0 + 5 * at) p) = is ∙ ap jump (sym (offset-forward (5 * at) p there.0 there.1)) ∙ ap (λ n. jump (offset n p)) zero_at in
-    here
-    ∙ ap (λ m. append m (i ∷ [])) before
-    ∙ append-append empty (jumps_to 0 (take at ps)) (i ∷ [])
-    ∙ ap (λ j. append empty (jumps_to 0 (take at ps) ++ j ∷ [])) forward
-    ∙ ap (append empty) (sym (jumps-more 0 ps at p (slice_get-get_or ps at 0 lt)))
-    ∙ ap (λ n. append empty (jumps_to 0 (take n ps))) next
 
 -- the first fault of a file behind files without one is that of all files
 pub file-fails : (files : List (List ℕ)) (at : ℕ) (file : List ℕ) (fault : ObjectFault) → at < length files → each_below at (λ i. faults_in_file i (slice_get files i)) ≡ [] → slice_get files at ≡ Some file → Refuses fault file at → LinkRefuses (λ f. first_in (object_faults files) ≡ Some f) (of_object fault)

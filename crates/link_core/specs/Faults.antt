@@ -1,5 +1,5 @@
--- The faults of a link in their order: those of the objects, of symbols and entries, too much data or code, those of code,
--- what is not supported yet, and a program that is too large.
+-- The faults of a link in their order: those of the objects, of symbols and entries, too much data or code, those of code
+-- and of data, what is not supported yet, and a program that is too large.
 use Rattle.std.specs.Prelude.{◌≡◌, ◌⊎◌, ℕ, ◌<◌, ◌^◌, List, [], length, map, Option, Some, None, slice_get}
 use Rattle.std.specs.List.{filter_map}
 use Rattle.faults.specs.Present.{◌followed_by◌, each_below, first_in}
@@ -13,8 +13,9 @@ use Rattle.lift_blocks.specs.Listed.{Lifted, IsLifted}
 use Rattle.lower.specs.Lowering.{lowered_blocks}
 use Rattle.jump_table.specs.Assembly.{code_of}
 use Rattle.jump_table.specs.Laws.{AreLengths}
-use Rattle.link_core.specs.CodeFaults.{code_faults}
-use Rattle.link_core.specs.Unsupported.{is_unsupported, IsLeastPlace, IsSupported}
+use Rattle.relocs.specs.CodeFaults.{code_faults}
+use Rattle.relocs.specs.Data.{data_faults}
+use Rattle.link_core.specs.Unsupported.{unsupported_faults}
 use Rattle.link_core.specs.declared.linker.TheConstants.{CODE_BYTES_TOO_LARGE}
 use Rattle.link_core.specs.declared.link_fault.LinkFault.{LinkFault}
 use Rattle.link_core.specs.declared.link_fault.LinkFault.TheVariants.{Bad, Memory}
@@ -32,11 +33,15 @@ object_faults files = each_below (length files) (λ at. faults_in_file at (slice
 abbrev pub input_of : List (List ℕ) → Wanted → Given
 input_of files wanted = record { objects = filter_map object_of files; wanted = wanted }
 
+-- the faults of code and of data, and what is not supported yet
+abbrev pub content_faults : Given → List Fault
+content_faults given = code_faults given followed_by data_faults given followed_by unsupported_faults given
+
 -- the faults of objects whose files have none
 abbrev pub given_faults : Given → List Fault
-given_faults given = symbol_faults given followed_by layout_faults given followed_by code_faults given
+given_faults given = symbol_faults given followed_by layout_faults given followed_by content_faults given
 
--- All faults of a link but what is not supported yet, and the size of the program.
+-- all faults of a link but the size of the program
 abbrev pub listed_faults : List (List ℕ) → Wanted → List Fault
 listed_faults files wanted = object_faults files followed_by given_faults (input_of files wanted)
 
@@ -48,28 +53,20 @@ pub record IsTooLarge (given : Given) : Type 0 where
   pub lengths_are : AreLengths (lowered_blocks lifted) lengths
   pub large : 2 ^ 25 < length (code_of lengths (lowered_blocks lifted)).bytes
 
--- no fault is listed, everything is supported, and the program isn't too large
+-- no fault is listed, and the program isn't too large
 pub record HasNone (listed : List Fault) (given : Given) : Type 0 where
   pub none_listed : listed ≡ []
-  pub supported : IsSupported given
   pub small : ¬ IsTooLarge given
 
--- no fault is listed, and this is that of the first place with something that is not supported yet
-pub record HasUnsupported (listed : List Fault) (given : Given) (fault : Fault) : Type 0 where
-  pub none_listed : listed ≡ []
-  pub first : IsLeastPlace (is_unsupported given) fault
-
--- no fault is listed, everything is supported, and this is that of a program that is too large
+-- no fault is listed, and this is that of a program that is too large
 pub record HasSizeFault (listed : List Fault) (given : Given) (fault : Fault) : Type 0 where
   pub none_listed : listed ≡ []
-  pub supported : IsSupported given
   pub large : IsTooLarge given
   pub is : fault ≡ whole CODE_BYTES_TOO_LARGE
 
--- the first of the listed faults, else what is not supported yet, else the size
+-- the first of the listed faults, else the size
 abbrev pub IsFirst : List Fault → Given → Fault → Type 0
-IsFirst listed given fault =
-    (first_in listed ≡ Some fault) ⊎ (HasUnsupported listed given fault ⊎ HasSizeFault listed given fault)
+IsFirst listed given fault = (first_in listed ≡ Some fault) ⊎ HasSizeFault listed given fault
 
 -- files can be linked with wanted names
 unfoldable pub HasNoFault : List (List ℕ) → Wanted → Type 0

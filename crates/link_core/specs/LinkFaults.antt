@@ -5,6 +5,10 @@ use Rattle.symbols.specs.declared.fault.SymbolFault.{SymbolFault}
 use Rattle.symbols.specs.declared.fault.SymbolFault.TheVariants as symbol
 use Rattle.layout.specs.declared.fault.LayoutFault.{LayoutFault}
 use Rattle.layout.specs.declared.fault.LayoutFault.TheVariants as layout
+use Rattle.relocs.specs.declared.fault.RelocFault.{RelocFault}
+use Rattle.relocs.specs.declared.fault.RelocFault.TheVariants as relocated
+use Rattle.lift_blocks.specs.declared.fault.LiftFault.{LiftFault}
+use Rattle.lift_blocks.specs.declared.fault.LiftFault.TheVariants as lifted
 use Rattle.link_core.specs.declared.link_fault.LinkFault.{LinkFault}
 use Rattle.link_core.specs.declared.link_fault.LinkFault.TheVariants.{Bad, Memory}
 
@@ -22,3 +26,13 @@ of_symbols symbol.Memory = Memory
 abbrev pub of_layout : LayoutFault → LinkFault
 of_layout (layout.Bad fault) = Bad fault
 of_layout layout.Memory = Memory
+
+-- a fault of code
+abbrev pub of_code : LiftFault → LinkFault
+of_code (lifted.Bad fault) = Bad fault
+of_code lifted.Memory = Memory
+
+-- a fault of data
+abbrev pub of_data : RelocFault → LinkFault
+of_data (relocated.Bad fault) = Bad fault
+of_data relocated.Memory = Memory

@@ -2,12 +2,15 @@
 use Rattle.std.specs.Prelude.{◌≡◌, ℕ, ◌≤◌, ◌^◌, List, length}
 use Rattle.symbols.specs.Wanted.{Given}
 use Rattle.layout.specs.Addresses.{zero_pages}
-use Rattle.relocs.specs.Images.{read_only_image, writable_image}
+use Rattle.relocs.specs.Images.{Images, read_only_image, writable_image}
+use Rattle.relocs.specs.Places.{CodePlace}
+use Rattle.relocs.specs.AddressMap.{needed_places}
 use Rattle.lift_blocks.specs.Listed.{Lifted, IsLifted}
 use Rattle.lower.specs.Lowering.{lowered_blocks}
 use Rattle.pvm_ops.specs.BlockList.{BlockList}
 use Rattle.jump_table.specs.Assembly.{code_of, table_of, width_of}
 use Rattle.jump_table.specs.Laws.{AreLengths}
+use Rattle.jump_table.specs.Assembling.{AssembledCode}
 use Rattle.blob_codec.specs.Grammar.{Program, Container, IsContainer, container_bytes}
 use Rattle.link_core.specs.Agrees.{Agrees}
 use Rattle.link_core.specs.MapText.{map_text}
@@ -26,6 +29,16 @@ container_of given lengths lifted = record {
   program = program_of lengths (lowered_blocks lifted);
 }
 
+-- the container of data and of code, as the code writes it
+abbrev pub container_with : Given → Images → AssembledCode → Container
+container_with given images assembled = record {
+  read_only = images.read_only;
+  writable = images.writable;
+  zero_pages = zero_pages given;
+  stack = given.wanted.stack;
+  program = record { table = assembled.table; width = assembled.width; code = assembled.code };
+}
+
 -- The container is that of the objects: their data at their addresses, and their operations in code order, cut into
 -- blocks, lowered and placed. So it is determined by what the link was given.
 pub record IsLinked (given : Given) (c : Container) : Type 0 where
@@ -37,15 +50,17 @@ pub record IsLinked (given : Given) (c : Container) : Type 0 where
   pub fits : IsContainer c
   pub small : length c.program.code.bytes ≤ 2 ^ 25
 
--- a linked program as it is handed on: the bytes of its container, and its map as text
+-- a linked program: the bytes of its container, its address map, and its map as text
 pub record Linked : Type 0 where
   pub container : List ℕ
-  pub map : List ℕ
+  pub map : List CodePlace
+  pub text : List ℕ
 
--- The bytes are the linked program's container, which means what the objects mean, and the text is its map.
+-- the bytes are the linked program's container, which means what the objects mean, with its maps
 pub record HoldsLinked (given : Given) (linked : Linked) : Type 0 where
   pub container : Container
   pub spelled : linked.container ≡ container_bytes container
   pub is_linked : IsLinked given container
   pub agrees : Agrees given container
-  pub map_is : linked.map ≡ map_text given is_linked.lengths is_linked.lifted
+  pub map_is : linked.map ≡ needed_places given
+  pub text_is : linked.text ≡ map_text given is_linked.lengths is_linked.lifted

@@ -1,4 +1,4 @@
--- The map of a linked program as text: so far a line for each entry, and one for each section of data.
+-- The map of a linked program as text: a line for each entry, each section of data, the slots, and each code address.
 use Rattle.std.specs.Prelude.{ℕ, ◌+◌, List, [], ◌∷◌, ◌++◌, length, map, codes, Bool, ◌&&◌, nat_lt, if◌then◌else◌, Option, Some, None, slice_get}
 use Rattle.std.specs.Fmt.{decimal}
 use Rattle.disasm.specs.Digits.{hex_digits}
@@ -7,9 +7,12 @@ use Rattle.elf_objects.specs.declared.parts.SectionKind.{SectionKind}
 use Rattle.elf_objects.specs.Objects.{Section}
 use Rattle.symbols.specs.Wanted.{Given, sections_in, kept_objects}
 use Rattle.layout.specs.Sections.{is_read_only, is_writable, is_zero, extent}
-use Rattle.layout.specs.Addresses.{address_of}
+use Rattle.symbols.specs.Wanted.{import_name_at}
+use Rattle.layout.specs.Addresses.{address_of, got_of}
+use Rattle.relocs.specs.Places.{CodePlace, Code, Stub, Nowhere}
+use Rattle.relocs.specs.AddressMap.{number_at}
 use Rattle.lift_blocks.specs.Listed.{Lifted}
-use Rattle.jump_table.specs.Assembly.{start_of}
+use Rattle.jump_table.specs.Assembly.{start_of, table_of}
 use Rattle.lower.specs.Lowering.{lowered_blocks}
 
 -- an entry's number, the position of its first instruction in eight hexadecimal digits, and its name
@@ -59,8 +62,32 @@ lines_of is_of given = texts_below (length (kept_objects given)) (object_lines i
 abbrev pub data_lines : Given → List ℕ
 data_lines given = lines_of is_read_only given ++ lines_of is_writable given ++ lines_of is_zero given
 
--- the map: the lines of the wanted entries, and those of the data
+-- the address and the size of the table of slots, where there is one
+unfoldable pub got_line : Option (ℕ × ℕ) → List ℕ
+got_line None = []
+got_line (Some got) = codes "got " ++ range_text got.0 got.1 ++ codes "\n"
+
+-- a place of code by its section and offset, or an import by its name
+unfoldable pub place_text : Given → CodePlace → List ℕ
+place_text given (Code o s offset) = section_name o s ++ codes "+" ++ hex_digits 8 offset
+place_text given (Stub n at) = codes "import " ++ import_name_at given.wanted n
+place_text given Nowhere = []
+
+-- a code address, its position in the program, and its place
+unfoldable pub code_line : Given → ℕ → ℕ → CodePlace → List ℕ
+code_line given number position p = codes "code " ++ range_text number position ++ codes " " ++ place_text given p ++ codes "\n"
+
+-- the lines of the places of the address map, from an index on
+abbrev pub code_lines : Given → ℕ → List CodePlace → List ℕ → List ℕ
+code_lines given at [] positions = []
+code_lines given at (p ∷ ps) [] = []
+code_lines given at (p ∷ ps) (position ∷ positions) = code_line given (number_at at) position p ++ code_lines given (at + 1) ps positions
+
+-- the map: the lines of the wanted entries, those of the data, and those of the address map
 abbrev pub map_text : Given → List ℕ → Lifted → List ℕ
 map_text given lengths lifted =
     let list = lowered_blocks lifted in
-    entry_lines 0 given.wanted.entries (map (start_of lengths list) list.entries) ++ data_lines given
+    entry_lines 0 given.wanted.entries (map (start_of lengths list) list.entries)
+    ++ data_lines given
+    ++ got_line (got_of given)
+    ++ code_lines given 0 lifted.map (table_of lengths list)

@@ -1,50 +1,48 @@
--- What is not supported yet, by place: relocations, operations, and entries inside a section. It is refused with code 63.
-use Rattle.std.specs.Prelude.{◌≡◌, ℕ, length, Bool, true, false, not, ◌&&◌, ◌||◌, nat_eq, Option, Some, None, slice_get}
-use Rattle.std.specs.List.{list_any}
+-- What is not supported yet: relocations that name an import. A link with one is refused with code 63.
+use Rattle.std.specs.Prelude.{ℕ, List, ◌&&◌, Option, Some, None}
+use Rattle.std.specs.List.{filter_map}
+use Rattle.std.specs.Option.{option_map}
+use Rattle.faults.specs.First.{where_true, first_below}
 use Rattle.elf_objects.specs.declared.fault.Fault.{Fault}
+use Rattle.elf_objects.specs.declared.fault.TheConstants.{NOT_BUILT}
 use Rattle.elf_objects.specs.declared.parts.Relocation.{Relocation}
-use Rattle.elf_objects.specs.Objects.{Section, is_loaded_kind}
-use Rattle.symbols.specs.Wanted.{Given, sections_in}
+use Rattle.std.specs.Prelude.{Bool, true, false, length}
+use Rattle.symbols.specs.declared.place.Place.{Place}
+use Rattle.symbols.specs.declared.place.Place.TheVariants.{Import}
+use Rattle.symbols.specs.Wanted.{Given, kept_objects}
+use Rattle.symbols.specs.Parts.{object_at}
+use Rattle.symbols.specs.Resolution.{resolution}
 use Rattle.symbols.specs.Faults.{has_effect}
-use Rattle.layout.specs.Sections.{is_code}
-use Rattle.relocs.specs.Places.{Code, has}
-use Rattle.lift_blocks.specs.Listed.{entry_places}
-use Rattle.link_core.specs.CodeFaults.{is_word_start}
-use Rattle.link_core.specs.Unbuilt.{has_unlinked, unbuilt, stands_before}
+use Rattle.layout.specs.Slots.{each_section, loaded_relocations}
+use Rattle.relocs.specs.Operands.{least}
+use Rattle.relocs.specs.Data.{all_of}
 
--- a relocation at an offset that changes something
-abbrev pub changes_at : ℕ → Relocation → Bool
-changes_at offset relocation = has_effect relocation.kind && nat_eq relocation.offset offset
+abbrev pub is_imported : Place → Bool
+is_imported (Import i) = true
+is_imported place = false
 
--- one of a section's relocations does, where the section is loaded
-abbrev pub is_relocated : Section → ℕ → Bool
-is_relocated section offset = is_loaded_kind section.kind && list_any (changes_at offset) section.relocations
+-- the offset of a relocation that changes something and names an import
+abbrev pub import_offset : Given → ℕ → Relocation → Option ℕ
+import_offset given o r = where_true (has_effect r.kind && is_imported (resolution given o r.symbol)) r.offset
 
--- a word begins at an offset of a code section, and its operation is not supported
-abbrev pub has_unlinked_word : Section → ℕ → Bool
-has_unlinked_word section offset =
-    is_code section.kind && (is_word_start (length section.content) offset && has_unlinked section.content offset)
+-- the offsets of a section with such a relocation, in table order
+abbrev pub import_offsets : Given → ℕ → ℕ → List ℕ
+import_offsets given o s = filter_map (import_offset given o) (loaded_relocations given o s)
 
--- a relocation or a word at an offset of a section is not supported yet
-abbrev pub is_unsupported_in : Option Section → ℕ → Bool
-is_unsupported_in None offset = false
-is_unsupported_in (Some section) offset = is_relocated section offset || has_unlinked_word section offset
+abbrev pub unsupported : ℕ → ℕ → ℕ → Fault
+unsupported object section offset = record { code = NOT_BUILT; object = object; section = section; offset = offset }
 
--- an entry is at an offset that isn't the start of its section
-abbrev pub is_inner_entry : Given → ℕ → ℕ → ℕ → Bool
-is_inner_entry given o s offset = not (nat_eq offset 0) && has (entry_places given) (Code o s offset)
+-- the fault at the least of them
+abbrev pub section_unsupported : Given → ℕ → ℕ → Option Fault
+section_unsupported given o s = option_map (unsupported o s) (least (import_offsets given o s))
 
--- something at a place is not supported yet
-abbrev pub is_unsupported : Given → ℕ → ℕ → ℕ → Bool
-is_unsupported given o s offset =
-    is_unsupported_in (slice_get (sections_in given o) s) offset || is_inner_entry given o s offset
+-- by object and section: the first of these faults is at the least place
+unfoldable pub unsupported_faults : Given → List Fault
+unsupported_faults given = each_section given (λ o s. all_of (section_unsupported given o s))
 
--- the fault of the least place that passes a test, by object, section and offset
-pub record IsLeastPlace (test : ℕ → ℕ → ℕ → Bool) (fault : Fault) : Type 0 where
-  pub is : fault ≡ unbuilt fault.object fault.section fault.offset
-  pub there : test fault.object fault.section fault.offset ≡ true
-  pub first : (o s offset : ℕ) → test o s offset ≡ true → stands_before fault (unbuilt o s offset) ≡ true
+-- the first of an object, and of all, as the code finds it
+abbrev pub object_unsupported : Given → ℕ → Option Fault
+object_unsupported given o = first_below (length (object_at (kept_objects given) o).sections) (section_unsupported given o)
 
--- everything is supported
-abbrev pub IsSupported : Given → Type 0
-IsSupported given = (o s offset : ℕ) → is_unsupported given o s offset ≡ false
+unfoldable pub first_unsupported : Given → Option Fault
+first_unsupported given = first_below (length (kept_objects given)) (object_unsupported given)

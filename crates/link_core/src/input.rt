@@ -1,25 +1,26 @@
 //! What a link is given, and its parts by their numbers.
 
-ghost use Rattle.std.specs.Prelude.{◌≡◌, ◌≢◌, ◌≤◌, ◌<◌, ◌^◌, [], length, slice_get, Some, None, IsSomeAnd};
-ghost use Rattle.std.specs.Option.{option_copied};
+ghost use Rattle.std.specs.Prelude.{◌≡◌, ◌≤◌, ◌<◌, ◌^◌, [], length, slice_get, Some, IsSomeAnd, MatchResult};
 ghost use Rattle.elf_objects.specs.Objects.{ShowsSection, relocations_of};
 ghost use Rattle.symbols.specs.Wanted.{Given};
 ghost use Rattle.symbols.specs.Resolved.{IsResolved};
+ghost use Rattle.symbols.specs.Resolution.{resolution};
 ghost use Rattle.symbols.specs.Faults.{symbol_faults};
-ghost use Rattle.symbols.specs.Parts.{object_at};
-ghost use Rattle.layout.specs.Addresses.{address_of, read_only_len, zero_pages};
+ghost use Rattle.symbols.specs.Parts.{object_at, sections_of, symbol_count};
+ghost use Rattle.layout.specs.Addresses.{address_of, got_of, zero_pages};
 ghost use Rattle.layout.specs.Faults.{layout_faults};
 ghost use Rattle.layout.specs.Placed.{IsPlaced};
-ghost use Rattle.relocs.specs.Places.{Code, code_at};
-ghost use Rattle.symbols.specs.Parts.{sections_of};
-ghost use Rattle.lift_blocks.specs.Listed.{entry_places};
-ghost use Rattle.std.specs.List.{AllByRecursion};
-ghost use Rattle.link_core.specs.DataParts.{start_of};
-ghost use Rattle.link_core.specs.Sites.{code_place, IsInCode};
+ghost use Rattle.relocs.specs.AddressMap.{needed_places};
+ghost use Rattle.relocs.specs.Images.{AreImages, Refuses as DataRefuses};
+ghost use Rattle.lift_blocks.specs.Listed.{Lifts};
+ghost use Rattle.lift_blocks.specs.Kept.{Refuses as CodeRefuses};
 
-use crate::data_part::DataPart;
-use elf_objects::{Objects, Relocation, Section, SectionKind};
+use crate::phases::images_with;
+use elf_objects::{Objects, Relocation, Section};
 use layout::Placed;
+use lift_blocks::{LiftFault, Lifted, lift};
+use relocs::{CodeMap, Images, RelocFault};
+use std::alloc::Global;
 use std::marker::Model;
 use symbols::{Place, Resolved, Wanted};
 
@@ -35,22 +36,13 @@ pub(crate) struct Input<'a> {
 
 impl<'a> Model for Input<'a> {
     ghost use Rattle.symbols.specs.Wanted.{Given as TheGiven};
-    ghost use Rattle.layout.specs.Placed.{IsPlaced};
-    ghost use Rattle.link_core.specs.Sites.{IsInput};
+    ghost use Rattle.link_core.specs.Inputs.{IsInput};
 
     ghost Value = { TheGiven };
 
     ghost view = { λ i. record { objects = i.objects.now; wanted = i.wanted.now } };
 
-    ghost invariant = { λ i. let given : TheGiven = record { objects = i.objects.now; wanted = i.wanted.now } in record { input : IsInput given i.resolved.now; placed : IsPlaced given i.placed.now } };
-}
-
-/// A section by the numbers of its object and its own, and an offset in it in bytes.
-#[derive(Clone, Copy, Debug)]
-pub(crate) struct Site {
-    pub object: u32,
-    pub section: u32,
-    pub offset: u64,
+    ghost invariant = { λ i. let given : TheGiven = record { objects = i.objects.now; wanted = i.wanted.now } in IsInput given i.resolved.now i.placed.now };
 }
 
 impl<'a> Input<'a> {
@@ -107,21 +99,19 @@ impl<'a> Input<'a> {
     pub(crate) fn relocation(&self, object: u32, section: u32, at: u32) -> Relocation
         requires section { section < length (sections_of (slice_get self.now.objects object)) }
         requires at { at < length (relocations_of (object_at self.now.objects object) section) }
-        ensures { slice_get (relocations_of (object_at self.now.objects object) section) at ≡ Some result }
+        ensures value { slice_get (relocations_of (object_at self.now.objects object) section) at ≡ Some result }
+        ensures symbol { result.symbol < symbol_count self.now.objects object }
     {
         self.objects.object(object).relocation(section, at)
     }
 
-    /// The bytes of a section, where it is code.
-    pub(crate) fn text(&self, object: u32, section: u32) -> Option<&'a [u8]>
-        requires { section < length (sections_of (slice_get self.now.objects object)) }
-        ensures { option_copied result ≡ code_at self.now object section }
+    /// What a symbol of an object stands for.
+    pub(crate) fn symbol_place(&self, object: u32, symbol: u32) -> Place
+        requires object { object < length self.now.objects }
+        requires symbol { symbol < symbol_count self.now.objects object }
+        ensures { result ≡ resolution self.now object symbol }
     {
-        let section = self.section(object, section);
-        match section.kind {
-            SectionKind::Code => Some(section.content),
-            _ => None,
-        }
+        self.resolved.place(object, symbol)
     }
 
     /// The address of a section. Code has none, nor what isn't loaded.
@@ -132,55 +122,18 @@ impl<'a> Input<'a> {
         self.placed.address(object, section)
     }
 
-    /// Where a part of data begins that has bytes in the files.
-    pub(crate) fn start(&self, part: DataPart) -> u32
-        requires { part ≢ DataPart.Zero }
-        ensures { result ≡ start_of self.now part }
+    /// The address and the size in bytes of the table of slots, where there is one.
+    pub(crate) fn got(&self) -> Option<(u32, u32)>
+        ensures { result ≡ got_of self.now }
     {
-        match part {
-            DataPart::Writable => 0x2_0000
-                + 0x1_0000 * self.placed.read_only_len().div_ceil(0x1_0000),
-            _ => 0x1_0000,
-        }
+        self.placed.got()
     }
 
-    /// How many pages of zeros the data need behind those of the writable part.
+    /// How many pages of zeros the data need after those of the writable part.
     pub(crate) fn zero_pages(&self) -> u32
         ensures { result ≡ zero_pages self.now }
     {
         self.placed.zero_pages()
-    }
-
-    /// How many entries are wanted.
-    pub(crate) fn entries(&self) -> u32
-        ensures count { result ≡ length (entry_places self.now) }
-        ensures few { result ≤ 1000 }
-        ensures in_code { AllByRecursion (IsInCode self.now) (entry_places self.now) }
-    {
-        self.wanted.entries()
-    }
-
-    /// Where an entry stands.
-    pub(crate) fn entry(&self, at: u32) -> Site
-        requires { at < length (entry_places self.now) }
-        ensures { slice_get (entry_places self.now) at ≡ Some (code_place result) }
-    {
-        match self.resolved.entry(at) {
-            Place::Code {
-                object,
-                section,
-                offset,
-            } => Site {
-                object,
-                section,
-                offset,
-            },
-            _ => Site {
-                object: 0,
-                section: 0,
-                offset: 0,
-            },
-        }
     }
 
     /// The data and the stack fit a container. It does nothing.
@@ -196,5 +149,27 @@ impl<'a> Input<'a> {
         ensures { result.now ≡ self.now.wanted }
     {
         self.wanted
+    }
+
+    /// The operations in code order.
+    pub(crate) fn lift(&self, alloc: Global) -> Result<Lifted, LiftFault>
+        ensures { MatchResult result (Lifts self.now) (CodeRefuses self.now) }
+    {
+        lift(alloc, self.objects, self.resolved, self.placed, self.wanted)
+    }
+
+    /// The bytes of the data after relocation.
+    pub(crate) fn images(&self, alloc: Global, map: &CodeMap) -> Result<Images, RelocFault>
+        requires { map.now ≡ needed_places self.now }
+        ensures { MatchResult result (AreImages self.now) (DataRefuses self.now) }
+    {
+        images_with(
+            alloc,
+            self.objects,
+            self.wanted,
+            self.resolved,
+            self.placed,
+            map,
+        )
     }
 }

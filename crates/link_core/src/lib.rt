@@ -1,37 +1,31 @@
 //! The link as a whole: the files of objects are linked into a program, or refused with their first fault.
 //!
-//! What the linked program is says `specs/Linked.antt`, and `specs/Agrees.antt` that it means what the objects mean, by both
-//! machines' runs of `specs/Runs.antt`. The faults stand in their order in `specs/Faults.antt`. So far code is linked that
-//! goes straight on, section after section: `specs/Straight.antt` says what its instructions are.
+//! `specs/Linked.antt` defines the linked program, and `specs/Agrees.antt` that it means what the objects mean, by the two
+//! machines' runs of `specs/Runs.antt`. `specs/Faults.antt` has the faults in their order.
 #![tactic(auto)]
 
-ghost use Rattle.link_core.specs.Laws.{LinkedAgrees};
+ghost use Rattle.link_core.specs.Laws.{LinkedAgrees, LinkedIsOne};
 
-mod assembly;
 mod bundle;
 mod data_part;
-mod image;
 mod input;
 mod link_fault;
 mod linker;
-mod lowering;
 mod map_text;
-mod straight;
-mod unbuilt;
-mod word_faults;
-mod words;
+mod phases;
+mod program;
+mod unsupported;
 
 pub use bundle::Bundle;
 use jump_table::code_is_placed;
-use lift_blocks::{bounds_stay, source_lock};
+use lift_blocks::{bounds_stay, lifted_is_one, source_lock};
 pub use link_fault::LinkFault;
 pub use linker::{CODE_BYTES_TOO_LARGE, Linked, first_fault_is_one, link};
 use lower::blocks_are_carried_out;
 use machine_state::start_is_good;
 use pvm_machine::effects_keep_targets;
-pub use words::{BAD_REGISTER, BAD_WORD, ECALL, LOAD_TO_ZERO};
 
-/// A program linked as `IsLinked` says agrees with its objects.
+/// A program linked as `IsLinked` says agrees with its objects, where no relocation names an import.
 pub fn linked_agrees()
     ensures { LinkedAgrees }
 {
@@ -41,6 +35,13 @@ pub fn linked_agrees()
     code_is_placed();
     effects_keep_targets();
     start_is_good();
+}
+
+/// A link's input has one linked program.
+pub fn linked_is_one()
+    ensures { LinkedIsOne }
+{
+    lifted_is_one();
 }
 
 #[cfg(test)]

@@ -1,9 +1,11 @@
 ghost use Rattle.std.specs.Prelude.{◌≡◌};
 ghost use Rattle.link_core.specs.declared.link_fault.LinkFault.TheVariants.{Memory};
-ghost use Rattle.link_core.specs.LinkFaults.{of_object, of_symbols, of_layout};
+ghost use Rattle.link_core.specs.LinkFaults.{of_object, of_symbols, of_layout, of_code, of_data};
 
 use elf_objects::{Fault, ObjectFault};
 use layout::LayoutFault;
+use lift_blocks::LiftFault;
+use relocs::RelocFault;
 use std::alloc::AllocError;
 use symbols::SymbolFault;
 use thiserror::Error;
@@ -56,6 +58,28 @@ impl From<LayoutFault> for LinkFault {
         match fault {
             LayoutFault::Bad(fault) => LinkFault::Bad(fault),
             LayoutFault::Memory => LinkFault::Memory,
+        }
+    }
+}
+
+impl From<LiftFault> for LinkFault {
+    ghost from_gives = { λ lift_fault fault. fault ≡ of_code lift_fault };
+
+    fn from(fault: LiftFault) -> LinkFault {
+        match fault {
+            LiftFault::Bad(fault) => LinkFault::Bad(fault),
+            LiftFault::Memory => LinkFault::Memory,
+        }
+    }
+}
+
+impl From<RelocFault> for LinkFault {
+    ghost from_gives = { λ data_fault fault. fault ≡ of_data data_fault };
+
+    fn from(fault: RelocFault) -> LinkFault {
+        match fault {
+            RelocFault::Bad(fault) => LinkFault::Bad(fault),
+            RelocFault::Memory => LinkFault::Memory,
         }
     }
 }

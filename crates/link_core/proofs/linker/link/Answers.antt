@@ -1,5 +1,5 @@
 use Rattle.link_core.proofs.LinkSteps.{fails-at}
-use Rattle.link_core.proofs.LinkFaultsTold.{object_first, objects_last}
+use Rattle.link_core.proofs.FaultOrder.{object_first, objects_last}
 use Rattle.link_core.proofs.linker.link.Goals as goal
 
 pub returns-in_err-objects : goal.returns-in_err-objects
