@@ -4,9 +4,8 @@ use Rattle.elf_objects.specs.declared.fault.TheConstants.{NOT_ELF, WRONG_KIND, W
 use Rattle.symbols.specs.declared.fault.TheConstants.{COMMON, DUPLICATE, UNDEFINED, ENTRY_MISSING, ENTRY_NOT_CODE}
 use Rattle.layout.specs.declared.fault.TheConstants.{READ_ONLY_TOO_LARGE, WRITABLE_TOO_LARGE, ZERO_TOO_LARGE, CODE_TOO_LARGE}
 use Rattle.link_core.specs.declared.linker.TheConstants.{CODE_BYTES_TOO_LARGE}
-use Rattle.link_core.specs.declared.words.TheConstants.{BAD_WORD, BAD_REGISTER, ECALL, LOAD_TO_ZERO}
-use Rattle.polkatool_cmd.specs.declared.fault_codes.TheConstants.{AUIPC_UNRELOCATED, WRONG_RELOCATION, MISSING_HIGH, VALUE_OUT_OF_RANGE}
-use Rattle.polkatool_cmd.specs.declared.fault_codes.TheConstants.{NOT_A_PLACE, WRONG_DATA_RELOCATION, BAD_BRANCH_TARGET, INTO_PAIR}
+use Rattle.relocs.specs.declared.fault.TheConstants.{BAD_WORD, BAD_REGISTER, ECALL, LOAD_TO_ZERO, AUIPC_UNRELOCATED, WRONG_RELOCATION, MISSING_HIGH}
+use Rattle.relocs.specs.declared.fault.TheConstants.{VALUE_OUT_OF_RANGE, NOT_A_PLACE, WRONG_DATA_RELOCATION, BAD_TARGET as BAD_BRANCH_TARGET, INTO_PAIR}
 use Rattle.polkatool_cmd.specs.declared.fault_codes.TheConstants.{TRUNCATED, OVERLONG, BAD_WIDTH, BAD_PADDING, LEFT_OVER, ARGUMENT_TOO_LARGE, BAD_ENTRY}
 use Rattle.polkatool_cmd.specs.declared.fault_codes.TheConstants.{NO_FIRST, UNKNOWN_OPCODE, BAD_TARGET, BAD_TABLE_ENTRY, OPEN_END, BAD_REPLY_LINE, FILE_TOO_LARGE}
 

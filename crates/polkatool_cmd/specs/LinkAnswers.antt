@@ -35,7 +35,7 @@ pub record HasLinked (link : LinkCommand) (old new : Snapshot) : Type 0 where
   pub linked : Linked
   pub links : LinksFiles old.files link linked
   pub written : Holds new.files link.output linked.container
-  pub map : Appends old.out new.out linked.map
+  pub map : Appends old.out new.out linked.text
   pub others : new ≡ record old { files = new.files; out = new.out }
 
 -- A file is too large, and those before it aren't: this is its fault.
@@ -71,7 +71,7 @@ pub record FailedPut (link : LinkCommand) (old new : Snapshot) : Type 0 where
   pub linked : Linked
   pub links : LinksFiles old.files link linked
   pub written : Holds new.files link.output linked.container
-  pub map : AppendsFront old.out new.out linked.map
+  pub map : AppendsFront old.out new.out linked.text
   pub cause : Rose old.puts new.puts
   pub others : new ≡ record old { files = new.files; out = new.out; puts = new.puts }
 

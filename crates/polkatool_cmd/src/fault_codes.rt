@@ -1,24 +1,5 @@
 //! The codes of faults that no crate below declares.
 
-/// The codes of relocations that a link refuses, and of instructions that lack one.
-pub(crate) const AUIPC_UNRELOCATED: u8 = 24;
-
-pub(crate) const WRONG_RELOCATION: u8 = 25;
-
-pub(crate) const MISSING_HIGH: u8 = 26;
-
-pub(crate) const VALUE_OUT_OF_RANGE: u8 = 27;
-
-pub(crate) const NOT_A_PLACE: u8 = 28;
-
-pub(crate) const WRONG_DATA_RELOCATION: u8 = 29;
-
-/// The code of a branch, a jump or a call in an object that has no place as its target.
-pub(crate) const BAD_BRANCH_TARGET: u8 = 30;
-
-/// The code of a target, an address or an entry at the second word of a call's pair.
-pub(crate) const INTO_PAIR: u8 = 31;
-
 /// The codes of what keeps bytes from being a container, one for each `BlobFault`.
 pub(crate) const TRUNCATED: u8 = 40;
 
