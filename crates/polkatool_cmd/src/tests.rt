@@ -56,6 +56,13 @@ const OF_TWO_OBJECTS: [u8; 41] = [
     0, 0, 0, 0x33, 0x07, 0x05, 0x32, 0x00, 0x33, 0x07, 0x05, 0x32, 0x00, 0x21, 0xa4, 0x04,
 ];
 
+/// The container of the object that loops: the entry's jump, `add_imm r7 r7 -1`, `branch_ne_imm r7 0` to it, and the trap
+/// at the end.
+const OF_A_LOOP: [u8; 35] = [
+    0, 0, 0, 0, 0, 0, 0, 0, 0, 0, 1, 0x14, 0, 0, 0, 0, 0x01, 0x0f, 0x28, 0x05, 0, 0, 0, 0x95, 0x77,
+    0xff, 0x52, 0x07, 0xfd, 0xff, 0xff, 0xff, 0, 0x21, 0x41,
+];
+
 const USAGE: &[u8; 28] = b"polkatool: bad command line\n";
 
 const MAP: &[u8; 22] = b"entry 0 00000005 main\n";
@@ -121,6 +128,14 @@ fn object_of_another_word(alloc: Global) -> Result<Vec<u8>, AllocError> {
     if let Some(byte) = object.get_mut(68) {
         *byte = 0x68;
     }
+    Ok(object)
+}
+
+/// The object of a loop: `addi a0, a0, -1`, and `bne a0, x0, -4` at the end.
+fn object_of_a_loop(alloc: Global) -> Result<Vec<u8>, AllocError> {
+    let mut object = Vec::from_slice(alloc, &OBJECT[..64])?;
+    object.extend_from_slice(&[0x13, 0x05, 0xf5, 0xff, 0xe3, 0x1e, 0x05, 0xfe])?;
+    object.extend_from_slice(&OBJECT[72..])?;
     Ok(object)
 }
 
@@ -288,6 +303,24 @@ fn links_an_object_of_no_text(rt: HostRuntime) -> Result<(), Fail> {
             &LINK,
             Status::Done,
             &OF_TWO_INSTRUCTIONS,
+            MAP,
+            b""
+        )?
+    );
+    Ok(())
+}
+
+/// The branch leads to the entry's block, and behind it the machine runs into the trap at the end.
+#[test]
+fn links_an_object_that_loops(rt: HostRuntime) -> Result<(), Fail> {
+    let object = object_of_a_loop(rt.alloc())?;
+    assert!(rt;
+        comes_to(
+            rt.alloc(),
+            &object,
+            &LINK,
+            Status::Done,
+            &OF_A_LOOP,
             MAP,
             b""
         )?
