@@ -1,19 +1,15 @@
 -- The relocations at one offset, as a loop over the table finds them.
-use Rattle.std.proofs.Common.{◌≡◌, ℕ, zero, suc, ◌+◌, ◌<◌, ◌≤◌, ◌%◌, Bool, true, false, cond, List, [], ◌∷◌, ◌++◌, length, take, Option, Some, None, refl, sym, ap, subst, ◌∙◌, arith, length-append}
-use Rattle.std.specs.Prelude.{slice_get, IfSome, ◌||◌, ◌&&◌, if◌then◌else◌, nat_eq, nat_le}
+use Rattle.std.proofs.Common.{◌≡◌, ℕ, zero, suc, ◌+◌, ◌≤◌, Bool, true, false, cond, List, [], ◌∷◌, ◌++◌, length, take, Option, Some, None, refl, sym, ap, subst, ◌∙◌, arith, length-append}
+use Rattle.std.specs.Prelude.{slice_get, IfSome, ◌||◌, if◌then◌else◌}
 use Rattle.std.specs.List.{filter, find}
 use Rattle.std.proofs.lemmas.List.Folds.{list_any-append}
 use Rattle.faults.specs.First.{◌or_else◌, where_true}
 use Rattle.elf_objects.specs.declared.parts.Relocation.{Relocation}
-use Rattle.rv_decode.specs.declared.ops.RvOp.{RvOp}
-use Rattle.rv_decode.specs.declared.ops.RvOp.TheVariants as rv
 use Rattle.relocs.specs.declared.found.Found.{Found}
 use Rattle.relocs.specs.Kinds.{kind_of, is_call}
 use Rattle.symbols.specs.Wanted.{Given}
-use Rattle.relocs.specs.Places.{Code, code_at}
-use Rattle.relocs.specs.Words.{word_or_trap, word_in, decoded, raw_at}
-use Rattle.relocs.specs.Pairs.{stands_at, has_call, joins, can_call}
-use Rattle.relocs.specs.Sites.{HasSize, IsNamed, gives_high, found_of, found_more}
+use Rattle.relocs.specs.Pairs.{stands_at, has_call}
+use Rattle.relocs.specs.Sites.{IsNamed, gives_high, found_of, found_more}
 
 pub filter_next : {A : Type 0} (test : A → Bool) (xs : List A) (i : ℕ) (x : A) → slice_get xs i ≡ Some x → filter test (take (suc i) xs) ≡ filter test (take i xs) ++ cond (test x) (x ∷ []) []
 filter_next test [] i x e = absurd cc
@@ -83,37 +79,6 @@ pub found_few : (offset i : ℕ) (table : List Relocation) (found : Found) → f
 found_few offset i table found is =
     let count : found.count ≡ length (filter (stands_at offset) (take i table)) = ap (λ f. f.count) is in
     omega (arith, count, length-filter (stands_at offset) (take i table), length-take-le i table)
-
--- nothing joins what isn't there
-pub joins_none : (first : Option RvOp) → joins first None ≡ false
-joins_none None = refl
-joins_none (Some (rv.Lui rd value)) = refl
-joins_none (Some (rv.Auipc rd value)) = refl
-joins_none (Some (rv.Jal rd offset)) = refl
-joins_none (Some (rv.Jalr rd rs1 imm)) = refl
-joins_none (Some (rv.Branch cond rs1 rs2 offset)) = refl
-joins_none (Some (rv.Load width rd rs1 imm)) = refl
-joins_none (Some (rv.Store width rs1 rs2 imm)) = refl
-joins_none (Some (rv.OpImm op rd rs1 imm)) = refl
-joins_none (Some (rv.Op op rd rs1 rs2)) = refl
-joins_none (Some rv.Fence) = refl
-joins_none (Some rv.Trap) = refl
-
-nothing_past : (code : Option (List ℕ)) (size offset : ℕ) → HasSize code size → size < offset → word_in code offset ≡ None
-nothing_past None size offset has lt = refl
-nothing_past (Some bytes) size offset has lt =
-    let past : nat_le offset (length bytes) ≡ false = grind (arith, has, lt) in
-    rw past (by_test (nat_eq (offset % 4) 0))
-  where
-    by_test : (b : Bool) → (if (b && false) then Some (word_or_trap bytes offset) else None) ≡ None
-    by_test true = refl
-    by_test false = refl
-
--- no pair begins where its second word would be after all offsets
-pub no_call_past : (given : Given) (o s offset size : ℕ) → HasSize (code_at given o s) size → size < offset + 4 → can_call given o s offset ≡ false
-no_call_past given o s offset size has lt =
-    let none : raw_at given (Code o s (offset + 4)) ≡ None = ap decoded (nothing_past (code_at given o s) size (offset + 4) has lt) in
-    rw (none, joins_none (raw_at given (Code o s offset))) refl
 
 -- the symbol of what gives a value is still in the object
 pub named_next :

@@ -1,4 +1,4 @@
-ghost use Rattle.std.specs.Prelude.{◌≡◌, ◌<◌, ◌^◌, ◌++◌, ◌∷◌, [], true, length, map, slice_get, nat_lt, Some, OnOk, OnErr};
+ghost use Rattle.std.specs.Prelude.{◌≡◌, ◌<◌, ◌+◌, ◌*◌, ◌^◌, ◌++◌, ◌∷◌, [], true, length, map, slice_get, nat_lt, Some, OnOk, OnErr};
 ghost use Rattle.std.specs.List.{position};
 ghost use Rattle.relocs.specs.Places.{same_place};
 ghost use Rattle.relocs.specs.AddressMap.{number_in};
@@ -97,64 +97,31 @@ fn find(places: &[Place], place: Place) -> Option<usize>
 }
 
 /// Whether a place is before another in code order: places of code by object, section and offset, then imports.
-#[tactic(auto, unfolding(crate::specs::CodeMap::rank_of))]
 fn is_before(a: Place, b: Place) -> bool
     ensures { result ≡ nat_lt (rank_of (place_of a)) (rank_of (place_of b)) }
 {
-    match (a, b) {
-        (
-            Place::Code {
-                object,
-                section,
-                offset,
-            },
-            Place::Code {
-                object: other_object,
-                section: other_section,
-                offset: other_offset,
-            },
-        ) => code_rank(object, section, offset)
-            < code_rank(other_object, other_section, other_offset),
-        (
-            Place::Code {
-                object,
-                section,
-                offset,
-            },
-            _,
-        ) => {
-            let _rank = code_rank(object, section, offset);
-            true
-        }
-        (Place::Import(i), Place::Import(j)) => i < j,
-        (
-            Place::Import(_),
-            Place::Code {
-                object,
-                section,
-                offset,
-            },
-        ) => {
-            let _rank = code_rank(object, section, offset);
-            false
-        }
-        (Place::Import(_), _) => true,
-        (
-            _,
-            Place::Code {
-                object,
-                section,
-                offset,
-            },
-        ) => {
-            let _rank = code_rank(object, section, offset);
-            false
-        }
-        _ => false,
+    let (class, at) = rank(a);
+    let (other_class, other_at) = rank(b);
+    class < other_class || class == other_class && at < other_at
+}
+
+/// The rank of a place in code order: its class, and its rank among the places of that class.
+#[tactic(auto, unfolding(crate::specs::CodeMap::rank_of))]
+fn rank(place: Place) -> (u8, u128)
+    ensures { result.0 * 2 ^ 128 + result.1 ≡ rank_of (place_of place) }
+{
+    match place {
+        Place::Code {
+            object,
+            section,
+            offset,
+        } => (0, code_rank(object, section, offset)),
+        Place::Import(i) => (1, u128::from(i)),
+        _ => (2, 0),
     }
 }
 
-/// The rank of a place of code in code order.
+/// The rank of a place of code among those of code.
 #[tactic(auto, unfolding(crate::specs::CodeMap::code_rank))]
 fn code_rank(object: u32, section: u32, offset: u64) -> u128
     ensures { result ≡ the_code_rank object section offset }

@@ -85,18 +85,14 @@ impl Sources<'_, '_, '_> {
         requires section { IsCodeSection given object section }
         ensures { result ≡ may_call given object section offset }
     {
-        match offset.checked_add(4) {
-            Some(next) => {
-                joins(
-                    self.op_at(object, section, offset),
-                    self.op_at(object, section, next),
-                ) && self.found_at(object, section, next).count == 0
-            }
-            None => {
-                let _size = self.code_size(object, section);
-                false
-            }
+        let size = self.code_size(object, section) as u64;
+        if size < 4 || size - 4 < offset {
+            return false;
         }
+        joins(
+            self.op_at(object, section, offset),
+            self.op_at(object, section, offset + 4),
+        ) && self.found_at(object, section, offset + 4).count == 0
     }
 
     /// The number of bytes of a code section.
