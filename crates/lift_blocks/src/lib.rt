@@ -45,3 +45,6 @@ pub fn bounds_stay()
 pub fn lifted_is_one()
     ensures { LiftedIsOne }
 {}
+
+#[cfg(test)]
+mod tests;
