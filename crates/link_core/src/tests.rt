@@ -16,8 +16,10 @@ fn keeps_files_apart_in_a_bundle(rt: HostRuntime) -> Result<(), Fail> {
     Ok(())
 }
 
-/// The law speaks of lists of files, of which a link at hand shows nothing more: the test shows that it can be called.
+/// The laws speak of all lists of files and of all containers, of which a link at hand shows nothing more: the test shows
+/// that they can be called.
 #[test]
-fn the_law_of_one_first_fault_is_there() {
+fn laws_of_one_answer_are_there() {
     first_fault_is_one();
+    linked_is_one();
 }
