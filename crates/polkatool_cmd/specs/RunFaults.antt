@@ -1,5 +1,5 @@
 -- Why what a file holds isn't run.
-use Rattle.std.specs.Prelude.{ℕ, ◌*◌, ◌^◌, List, length, Bool, not, ◌&&◌, ◌||◌, ◌==◌, nat_lt, Option, slice_index}
+use Rattle.std.specs.Prelude.{ℕ, ◌*◌, ◌^◌, List, length, Bool, not, ◌&&◌, ◌==◌, nat_lt, Option, slice_index}
 use Rattle.std.specs.Option.{option_map}
 use Rattle.faults.specs.First.{◌or_else◌, where_true, least_below}
 use Rattle.elf_objects.specs.declared.fault.Fault.{Fault}
@@ -10,9 +10,9 @@ use Rattle.blob_codec.specs.Grammar.{Container}
 use Rattle.polkatool_cmd.specs.BlobFaults.{blob_fault, blob_fault_at, first_blob_fault}
 use Rattle.polkatool_cmd.specs.declared.fault_codes.TheConstants.{ARGUMENT_TOO_LARGE, BAD_ENTRY}
 
--- the opcodes that aren't run so far: the host call and the growth of the heap
+-- the opcode that isn't run so far: the host call
 abbrev pub is_unbuilt : ℕ → Bool
-is_unbuilt op = op == 10 || op == 101
+is_unbuilt op = op == 10
 
 -- an instruction that isn't run so far is marked at the position
 abbrev pub is_unbuilt_at : Listing → ℕ → Bool

@@ -44,6 +44,12 @@ end_of_exit exit.OutOfGas s = None
 end_of_exit (exit.Host number) s = Some (Unanswered number s.memory)
 end_of_exit exit.Memory s = None
 
+-- an exit that is the end of a run without host calls; where an allocation fails, the run has no end
+abbrev pub IsEnd : Exit → Type 0
+IsEnd (exit.Host number) = ⊥
+IsEnd exit.Memory = ⊥
+IsEnd end = Unit {0}
+
 -- the answer of a run with this status of its end
 abbrev pub EndsAs : Answer → Status → Type 0
 EndsAs answers.Done status = status ≡ statuses.Done
@@ -63,11 +69,12 @@ pub record IsNotTold (run : Paid Event End) (old new : Stream) : Type 0 where
   pub told : AppendsFront old.text new.text (transcript run)
   pub cause : Rose old.puts new.puts
 
--- how a run is told on a sink: by its whole transcript, or a put failed
+-- how a run is told on a sink: by its whole transcript; or a put failed; or an allocation did, and nothing is told
 abbrev pub Tells : Paid Event End → Answer → Stream → Stream → Type 0
 Tells run answers.Done old new = IsTold run statuses.Done old new
 Tells run answers.Panicked old new = IsTold run statuses.Panicked old new
 Tells run answers.Faulted old new = IsTold run statuses.Faulted old new
 Tells run answers.OutOfGas old new = IsTold run statuses.OutOfGas old new
 Tells run answers.FileFault old new = IsNotTold run old new
+Tells run answers.Memory old new = new ≡ old
 Tells run answer old new = ⊥

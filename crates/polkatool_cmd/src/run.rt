@@ -4,15 +4,15 @@ ghost use Rattle.std.specs.Prelude.{◌≡◌, ◌^◌, ◌≤◌, ◌++◌, Som
 ghost use Rattle.std.specs.Io.KnownBytes.{Appends};
 ghost use Rattle.machine_state.specs.Output.{output};
 ghost use Rattle.outside.specs.Outside.{AppendsFront, HasCause};
-ghost use Rattle.pvm_machine.specs.Stepped.{IsGivenSoFar};
-ghost use Rattle.pvm_machine.specs.Ran.{last_answer, run_of};
+ghost use Rattle.pvm_machine.specs.Stepped.{HasCall};
+ghost use Rattle.pvm_machine.specs.Ran.{run_of};
 ghost use Rattle.disasm.specs.Digits.{hex, hex_digits};
 ghost use Rattle.polkatool_cmd.specs.Commands.{Run};
 ghost use Rattle.polkatool_cmd.specs.RunRead.{run_in};
 ghost use Rattle.polkatool_cmd.specs.Transcript.{end_line, gas_line};
 ghost use Rattle.polkatool_cmd.specs.Statuses.{status_of};
 ghost use Rattle.polkatool_cmd.specs.Answers.{ComesTo};
-ghost use Rattle.polkatool_cmd.specs.Running.{Starts, FailsToStart, Tells, EndsAs, end_of_exit};
+ghost use Rattle.polkatool_cmd.specs.Running.{Starts, FailsToStart, IsEnd, Tells, EndsAs, end_of_exit};
 
 use crate::answer::Answer;
 use crate::blob::{blob_fault, read_blob};
@@ -69,7 +69,8 @@ fn start<'a>(
     command: &RunCommand<'_>,
 ) -> Result<Machine<'a>, RunFault>
     requires { length file.now ≤ 2 ^ 27 }
-    ensures { MatchResult result (Starts file.now (run_in command.now)) (FailsToStart file.now (run_in command.now)) }
+    ensures starts { MatchResult result (Starts file.now (run_in command.now)) (FailsToStart file.now (run_in command.now)) }
+    ensures calls { IfOk result (λ m. HasCall m.code → ⊥) }
 {
     let container = Container::read(file)?;
     if let Some(fault) = unbuilt_form(&container) {
@@ -90,13 +91,17 @@ fn start<'a>(
     }
 }
 
-/// Runs a machine to its end, and puts the transcript.
+/// Runs a machine whose code calls no host to its end, and puts the transcript.
 fn finish<O: Sink>(machine: &mut Machine<'_>, out: &mut O) -> Answer
+    requires { HasCall machine.old.code → ⊥ }
     ensures { Tells (run_of machine.old) result
         (record { text = O.bytes out.old; puts = O.faults out.old })
         (record { text = O.bytes out.new; puts = O.faults out.new }) }
 {
     let exit = machine.run();
+    if let Exit::Memory = exit {
+        return Answer::Memory;
+    }
     let answer = match put_end(machine, exit, out) {
         Ok(answer) => answer,
         Err(_) => return Answer::FileFault,
@@ -110,7 +115,7 @@ fn finish<O: Sink>(machine: &mut Machine<'_>, out: &mut O) -> Answer
 /// Puts the line of an end.
 #[tactic(auto, unfolding(crate::specs::Transcript::end_line))]
 fn put_end<O: Sink>(machine: &Machine<'_>, exit: Exit, out: &mut O) -> Result<Answer, Failed>
-    requires { IsGivenSoFar (last_answer exit) }
+    requires { IsEnd exit }
     ensures ends { IfOk result (λ answer. EndsAs answer (status_of (end_of_exit exit machine.now.state))) }
     ensures ok { OnOk result
         (Appends (O.bytes out.old) (O.bytes out.new) (end_line (end_of_exit exit machine.now.state))) }

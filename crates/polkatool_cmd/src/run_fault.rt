@@ -70,5 +70,5 @@ fn is_unbuilt_at(code: &Code<'_>, at: usize) -> bool
 fn is_unbuilt(op: u8) -> bool
     ensures { result ≡ is_unbuilt op }
 {
-    matches!(op, 10 | 101)
+    op == 10
 }

@@ -19,7 +19,7 @@ pub(crate) const FIVE: &[u8; 15] = b"\x00\x01\x0a\x28\x05\0\0\0\x33\x07\x05\x32\
 /// A program whose code is `load_imm a0, 5` and, at position 3, `ecalli 0`.
 const OF_A_CALL: &[u8; 9] = b"\x00\x01\x05\x33\x07\x05\x0a\0\x09";
 
-/// A program whose code is `load_imm a0, 5` and, at position 3, `sbrk a0, a0`.
+/// A program whose code is `load_imm a0, 5` and, at position 3, `sbrk a0, a0`. Behind it the code ends.
 const OF_GROWTH: &[u8; 9] = b"\x00\x01\x05\x33\x07\x05\x65\x77\x09";
 
 /// Its container has a byte of read-only data.
@@ -300,10 +300,8 @@ fn refuses_what_is_no_container(rt: HostRuntime) -> Result<(), Fail> {
 #[test]
 fn refuses_what_is_not_built(rt: HostRuntime) -> Result<(), Fail> {
     let call = blob(rt.alloc(), 9, OF_A_CALL)?;
-    let growth = blob(rt.alloc(), 9, OF_GROWTH)?;
     let line = b"refused 63 NotBuilt object=0 section=0 offset=3\n";
     assert!(rt; is_refused(rt.alloc(), &call, line)?);
-    assert!(rt; is_refused(rt.alloc(), &growth, line)?);
     assert!(rt; is_refused(rt.alloc(), &OF_READ_ONLY_DATA, line)?);
     assert!(rt;
         runs_to(
@@ -313,6 +311,20 @@ fn refuses_what_is_not_built(rt: HostRuntime) -> Result<(), Fail> {
             Status::Refused,
             b"",
             line
+        )?
+    );
+    Ok(())
+}
+
+#[test]
+fn runs_what_makes_the_heap_grow(rt: HostRuntime) -> Result<(), Fail> {
+    assert!(rt;
+        ends_with(
+            rt.alloc(),
+            OF_GROWTH,
+            &[b"run", b"--gas", b"10", b"b"],
+            Status::Panicked,
+            b"panic\ngas left=7\n"
         )?
     );
     Ok(())

@@ -12,17 +12,20 @@ use Rattle.runs.specs.Laid.{Fetched}
 use Rattle.runs.proofs.Fuel.{one_instruction, paid_paid, CameTo, comes_first, comes_quiet, comes_to_end}
 use Rattle.machine_state.specs.Memory.{Memory}
 use Rattle.machine_state.specs.State.{State}
-use Rattle.machine_state.specs.Ends.{Event, End, Halt, Panic, Fault, Unanswered, BadReply, Answer, Answered, Ended, Host, event, called, rules}
+use Rattle.machine_state.specs.Ends.{Event, End, Halt, Panic, Fault, Unanswered, BadReply, Answer, Answered, Ended, Host, event, called, no_host, rules}
 use Rattle.pvm_machine.specs.Machine.{Machine, standing}
 use Rattle.pvm_machine.specs.Step.{Standing, instr_at, machine_step}
-use Rattle.pvm_machine.specs.Stepped.{Stepped, gone, came_out, stayed, stepped, all_steps}
-use Rattle.pvm_machine.specs.Ran.{last_answer, run_with, call_turn, IsRunWith}
+use Rattle.pvm_machine.specs.Stepped.{Stepped, gone, came_out, begun, stayed, stepped, all_steps, LeadsTo, AreSteps}
+use Rattle.pvm_machine.specs.Ran.{last_answer, run_with, call_turn, IsRunWith, IsRun}
 use Rattle.pvm_machine.specs.declared.answers.Step.{Step}
 use Rattle.pvm_machine.specs.declared.answers.Step.TheVariants as answer
 use Rattle.pvm_machine.specs.declared.answers.Exit.{Exit}
 use Rattle.pvm_machine.specs.declared.answers.Exit.TheVariants as exit
 use Rattle.pvm_machine.proofs.Steps.{begins, no_step}
 use Rattle.pvm_machine.proofs.Runs.{steps_on, steps_end}
+use Rattle.pvm_machine.proofs.Turns.{turns}
+use Rattle.pvm_machine.specs.declared.operation.Operation.{Operation}
+use Rattle.pvm_machine.specs.Operations.{operation_of}
 use Rattle.pvm_machine.proofs.Done.{IsDone, is_done}
 
 -- what a last step has paid before the machine stands behind it: a call, its instruction
@@ -44,6 +47,38 @@ one_at_most answer.OutOfGas = omega arith
 one_at_most (answer.Host number) = omega arith
 one_at_most answer.Memory = omega arith
 
+-- what a step that goes on leaves as it is, and what it costs
+pub record GoesOn (m next : Machine) : Type 0 where
+  pub table : next.table ≡ m.table
+  pub code : next.code ≡ m.code
+  pub gas : m.gas ≡ suc next.gas
+
+came_out_goes : (m : Machine) (k next : ℕ) (x : Outcome ℕ State End) → m.gas ≡ suc k → (came_out (record m { gas = k }) next x).answer ≡ answer.Next → GoesOn m (came_out (record m { gas = k }) next x).machine
+came_out_goes m k next (Next s) gas e = record { table = refl; code = refl; gas = gas }
+came_out_goes m k next (Jump target s) gas e = record { table = refl; code = refl; gas = gas }
+came_out_goes m k next (Call number s) gas e = absurd cc
+came_out_goes m k next (Ends (Halt registers memory)) gas e = absurd cc
+came_out_goes m k next (Ends (Panic memory)) gas e = absurd cc
+came_out_goes m k next (Ends (Fault address memory)) gas e = absurd cc
+came_out_goes m k next (Ends (Unanswered number memory)) gas e = absurd cc
+came_out_goes m k next (Ends (BadReply line address memory)) gas e = absurd cc
+
+begun_goes : (m : Machine) (k : ℕ) (o : Option (Fetched Standing ℕ)) → m.gas ≡ suc k → (begun (record m { gas = k }) o).answer ≡ answer.Next → GoesOn m (begun (record m { gas = k }) o).machine
+begun_goes m k None gas e = absurd cc
+begun_goes m k (Some f) gas e = came_out_goes m k f.next _ gas e
+
+goes_on : (m : Machine) → (stepped m).answer ≡ answer.Next → GoesOn m (stepped m).machine
+goes_on m e = by_gas m.gas refl
+  where
+    by_gas : (gas : ℕ) → m.gas ≡ gas → GoesOn m (stepped m).machine
+    by_gas zero none =
+        let no : answer.OutOfGas ≡ answer.Next = sym (ap (λ (r : Stepped). r.answer) (no_step m none)) ∙ e in
+        absurd cc
+    by_gas (suc k) some =
+        let is = begins m k some in
+        let on : (begun (record m { gas = k }) (instr_at m.code m.counter)).answer ≡ answer.Next = sym (ap (λ (r : Stepped). r.answer) is) ∙ e in
+        rw is (begun_goes m k (instr_at m.code m.counter) some on)
+
 module _ {Held : Type 0} (host : Host Held) (held : Held) where
   abbrev steps_of : Machine → At ℕ (World State Held) → Turn (At ℕ (World State Held)) Event End
   steps_of m = machine_step host m.table m.code
@@ -52,6 +87,12 @@ module _ {Held : Type 0} (host : Host Held) (held : Held) where
   pub record Runs (m : Machine) (r : Stepped) : Type 0 where
     pub run : IsRunWith host held m r.machine r.answer
     pub less : r.machine.gas + cost r.answer ≤ m.gas
+
+  -- a quiet step before a run
+  one_step : (m next : Machine) → next.table ≡ m.table → next.code ≡ m.code → m.gas ≡ suc next.gas → steps_of m (standing m held) ≡ Goes [] 0 0 (standing next held) → run_with host held m ≡ paid [] 1 (run_with host held next)
+  one_step m next table code gas turn =
+      let first : pay_run (steps_of m) (suc next.gas) (standing m held) ≡ paid [] 1 (pay_run (steps_of m) next.gas (standing next held)) = comes_quiet (steps_of m) (suc next.gas) (standing m held) 0 next.gas (standing m held) (standing next held) (comes_first (steps_of m) (suc next.gas) (standing m held)) turn in
+      rw (table, code) (ap (λ (g : ℕ). pay_run (steps_of m) g (standing m held)) gas ∙ first)
 
   -- an instruction more before a run
   one_more : (m next new : Machine) (how : Step) → m.table ≡ next.table → m.code ≡ next.code → run_with host held m ≡ paid [] 1 (run_with host held next) → m.gas ≡ suc next.gas → new.gas + cost how ≤ next.gas → IsRunWith host held next new how → IsRunWith host held m new how
@@ -73,7 +114,10 @@ module _ {Held : Type 0} (host : Host Held) (held : Held) where
           let h' : run_with host held next ≡ paid [] (next.gas - (new.gas + 1)) p = rw (table, code) h in
           let count : 1 + (next.gas - (new.gas + 1) + p.begun) ≡ m.gas - (new.gas + 1) + p.begun = omega arith in
           is ∙ ap (paid [] 1) h' ∙ ap (λ (n : ℕ). record { events = p.events; end = p.end; left = p.left; begun = n }) count
-      by_answer answer.Memory h le = h
+      by_answer answer.Memory h le =
+          let p : Paid Event End = run_with host held new in
+          let count : 1 + (next.gas - new.gas + p.begun) ≡ m.gas - new.gas + p.begun = omega arith in
+          is ∙ ap (paid [] 1) h ∙ ap (λ (n : ℕ). record { events = p.events; end = p.end; left = p.left; begun = n }) count
 
   -- a machine with gas for an instruction, where machines with one less run so
   module _ (k : ℕ) (rest : (m : Machine) → m.gas ≡ k → Runs m (all_steps m)) (m : Machine) (gas : m.gas ≡ suc k) where
@@ -87,8 +131,7 @@ module _ {Held : Type 0} (host : Host Held) (held : Held) where
         let n : Machine = gone_to at s in
         let on : all_steps m ≡ all_steps n = steps_on m n (sym is) (omega arith) in
         let later : Runs n (all_steps n) = rest n refl in
-        let first : pay_run (steps_of m) (suc k) (standing m held) ≡ paid [] 1 (run_with host held n) = comes_quiet (steps_of m) (suc k) (standing m held) 0 k (standing m held) (standing n held) (comes_first (steps_of m) (suc k) (standing m held)) turn in
-        let whole : run_with host held m ≡ paid [] 1 (run_with host held n) = ap (λ (g : ℕ). pay_run (steps_of m) g (standing m held)) gas ∙ first in
+        let whole : run_with host held m ≡ paid [] 1 (run_with host held n) = one_step m n refl refl gas turn in
         let less : (all_steps n).machine.gas + cost (all_steps n).answer ≤ m.gas = omega (arith, later.less) in
         rw on (record { run = one_more m n (all_steps n).machine (all_steps n).answer refl refl whole (omega arith) later.less later.run; less = less })
 
@@ -119,20 +162,20 @@ module _ {Held : Type 0} (host : Host Held) (held : Held) where
     ends next e left is ran = rw (← steps_end m next e (sym is)) (record { run = ran; less = omega (arith, one_at_most (last_answer e)) })
 
     -- the instruction comes out so
-    comes : (next : ℕ) (x : Outcome ℕ State End) → IsDone m.state x → steps_of m (standing m held) ≡ move (rules host) (λ p. p) next (beside held x) → stepped m ≡ came_out (record m { gas = k }) next x → Runs m (all_steps m)
-    comes next (Next s) done turn is = goes next s turn is
-    comes next (Jump target s) done turn is = goes target s turn is
-    comes next (Call number s) done turn is = ends (gone_to next s) (exit.Host number) refl is (calls number next s turn)
-    comes next (Ends (Halt registers memory)) done turn is = ends (gone_to m.counter (record m.state { registers = registers; memory = memory })) exit.Halt refl is (stops _ turn)
-    comes next (Ends (Panic memory)) done turn is = ends (record m { gas = k }) exit.Panic refl is (stops _ turn ∙ ap (λ (kept : Memory). ends_so (Panic kept)) done)
-    comes next (Ends (Fault address memory)) done turn is = ends (record m { gas = k }) (exit.Fault address) refl is (stops _ turn ∙ ap (λ (kept : Memory). ends_so (Fault address kept)) done)
-    comes next (Ends (Unanswered number memory)) done turn is = absurd done
-    comes next (Ends (BadReply line address memory)) done turn is = absurd done
+    comes : (next : ℕ) (o : Operation) (x : Outcome ℕ State End) → IsDone o m.state x → steps_of m (standing m held) ≡ move (rules host) (λ p. p) next (beside held x) → stepped m ≡ came_out (record m { gas = k }) next x → Runs m (all_steps m)
+    comes next o (Next s) done turn is = goes next s turn is
+    comes next o (Jump target s) done turn is = goes target s turn is
+    comes next o (Call number s) done turn is = ends (gone_to next s) (exit.Host number) refl is (calls number next s turn)
+    comes next o (Ends (Halt registers memory)) done turn is = ends (gone_to m.counter (record m.state { registers = registers; memory = memory })) exit.Halt refl is (stops _ turn)
+    comes next o (Ends (Panic memory)) done turn is = ends (record m { gas = k }) exit.Panic refl is (stops _ turn ∙ ap (λ (kept : Memory). ends_so (Panic kept)) done)
+    comes next o (Ends (Fault address memory)) done turn is = ends (record m { gas = k }) (exit.Fault address) refl is (stops _ turn ∙ ap (λ (kept : Memory). ends_so (Fault address kept)) done)
+    comes next o (Ends (Unanswered number memory)) done turn is = absurd done
+    comes next o (Ends (BadReply line address memory)) done turn is = absurd done
 
     -- what stands at the counter is done
     fetches : (o : Option (Fetched Standing ℕ)) → instr_at m.code m.counter ≡ o → Runs m (all_steps m)
     fetches None none = ends (record m { gas = k }) exit.Panic refl (begins m k gas ∙ rw none refl) (stops _ (rw none refl))
-    fetches (Some f) some = comes f.next _ (is_done m.table m.code f.instr m.state) (rw some refl) (begins m k gas ∙ rw some refl)
+    fetches (Some f) some = comes f.next (operation_of f.instr.instr.op) _ (is_done m.table m.code f.instr m.state) (rw some refl) (begins m k gas ∙ rw some refl)
 
     runs_more : Runs m (all_steps m)
     runs_more = fetches _ refl
@@ -147,11 +190,60 @@ module _ {Held : Type 0} (host : Host Held) (held : Held) where
   runs_of zero m e = runs_none m e
   runs_of (suc k) m e = runs_more k (λ n f. runs_of k n f) m e
 
-  -- what the steps of a machine come to is its run under gas, up to the first call
-  pub ran_with : (m next : Machine) (e : Exit) → record { machine = next; answer = last_answer e } ≡ all_steps m → IsRunWith host held m next (last_answer e)
-  ran_with m next e is =
+  -- a run by steps that go on
+  pub record Led (m next : Machine) : Type 0 where
+    pub run : run_with host held m ≡ paid [] (m.gas - next.gas) (run_with host held next)
+    pub less : next.gas ≤ m.gas
+
+  led : (n : ℕ) (m next : Machine) → LeadsTo n m next → Led m next
+  led zero m next leads =
+      let p : Paid Event End = run_with host held m in
+      let count : p.begun ≡ m.gas - m.gas + p.begun = omega arith in
+      let LedTo : Machine → Type 0 = λ n. Led m n in
+      subst LedTo (sym leads) (record { run = ap (λ (n : ℕ). record { events = p.events; end = p.end; left = p.left; begun = n }) count; less = omega arith })
+  led (suc n) m next leads =
+      let r : Stepped = stepped m in
+      let goes : GoesOn m r.machine = goes_on m leads.0 in
+      let later : Led r.machine next = led n r.machine next leads.1 in
+      let turn : steps_of m (standing m held) ≡ Goes [] 0 0 (standing r.machine held) = rw leads.0 at (turns {Held = Held} host held m (omega (arith, goes.gas))) in
+      let less : next.gas ≤ m.gas = omega (arith, goes.gas, later.less) in
+      record {
+        run = one_more m r.machine next answer.Memory (sym goes.table) (sym goes.code) (one_step m r.machine goes.table goes.code goes.gas turn) goes.gas (omega (arith, later.less)) later.run;
+        less = less;
+      }
+
+  by_steps : (m next : Machine) (e : Exit) → record { machine = next; answer = last_answer e } ≡ all_steps m → IsRunWith host held m next (last_answer e)
+  by_steps m next e is =
       let IsRunTo : Stepped → Type 0 = λ r. IsRunWith host held m r.machine r.answer in
       subst IsRunTo (sym is) (runs_of m.gas m refl).run
+
+  -- what the steps of a machine come to is its run under gas, up to the first call
+  pub ran_with : (m next : Machine) (e : Exit) → AreSteps m next (last_answer e) → IsRunWith host held m next (last_answer e)
+  ran_with m next exit.Halt is = by_steps m next exit.Halt is
+  ran_with m next exit.Panic is = by_steps m next exit.Panic is
+  ran_with m next (exit.Fault address) is = by_steps m next (exit.Fault address) is
+  ran_with m next exit.OutOfGas is = by_steps m next exit.OutOfGas is
+  ran_with m next (exit.Host number) is = by_steps m next (exit.Host number) is
+  ran_with m next exit.Memory is = (led is.0.steps m next is.0.leads).run
+
+  -- a step that calls the host costs gas
+  pub call_is_paid : (m next : Machine) (number : ℕ) → record { machine = next; answer = answer.Host number } ≡ all_steps m → next.gas + 1 ≤ m.gas
+  call_is_paid m next number is =
+      let Paid : Stepped → Type 0 = λ r. r.machine.gas + cost r.answer ≤ m.gas in
+      subst Paid (sym is) (runs_of m.gas m refl).less
+
+-- what the steps of a machine come to where no host answers
+pub ran : (m next : Machine) (e : Exit) → AreSteps m next (last_answer e) → IsRun m next (last_answer e)
+ran m next exit.Halt is = ran_with no_host tt m next exit.Halt is
+ran m next exit.Panic is = ran_with no_host tt m next exit.Panic is
+ran m next (exit.Fault address) is = ran_with no_host tt m next (exit.Fault address) is
+ran m next exit.OutOfGas is = ran_with no_host tt m next exit.OutOfGas is
+ran m next (exit.Host number) is =
+    let paid_for : next.gas + 1 ≤ m.gas = call_is_paid no_host tt m next number is in
+    let count : m.gas - (next.gas + 1) + 1 ≡ m.gas - next.gas = omega (arith, paid_for) in
+    ran_with no_host tt m next (exit.Host number) is
+    ∙ ap (λ (n : ℕ). record { events = event number next.state ∷ []; end = Some (Unanswered number next.state.memory); left = next.gas; begun = n }) count
+ran m next exit.Memory is = ran_with no_host tt m next exit.Memory is
 
 -- The invariant of a loop that repeats steps and answers each call: the run from s0 is what was told and begun so far, and
 -- then the run of the machine from here, with what the host holds now.

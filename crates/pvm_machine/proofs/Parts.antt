@@ -2,13 +2,12 @@
 use Rattle.std.proofs.Common.{◌≡◌, ℕ, zero, suc, ◌+◌, ◌*◌, ◌<◌, ◌≤◌, ◌^◌, Bool, true, false, List, [], length, drop, Option, Some, Result, Ok, Err, refl, ap, sym, subst, ◌∙◌, arith, nat_eq}
 use Rattle.std.specs.Prelude.{◌/◌, ◌-◌, cond, IsSome, OnOk}
 use Rattle.std.specs.Result.{is_err}
-use Rattle.std.specs.Ordering.{nat_cmp}
 use Rattle.std.specs.Cmp.{unsigned_tied}
 use Rattle.std.specs.FinMap as map
 use Rattle.std.proofs.lemmas.Cmp.{nat_cmp_total}
 use Rattle.std.proofs.lemmas.Bool.Decides.{nat_tests}
 use Rattle.machine_state.specs.Memory.{Mode, Readable, Writable, Page, Memory, no_memory, page_size, first_page, with_pages}
-use Rattle.machine_state.specs.Start.{Image, pages_of, read_only_start, start_behind, writable_start, stack_end, argument_start, start_memory}
+use Rattle.machine_state.specs.Start.{Image, pages_of, read_only_start, start_behind, stack_end, argument_start, start_memory}
 use Rattle.page_memory.specs.declared.mode.Mode.TheVariants as mode
 use Rattle.page_memory.specs.Access.{copy_in, stored}
 use Rattle.page_memory.specs.Mapping.{HasPages, ChangesPages, with_mode}

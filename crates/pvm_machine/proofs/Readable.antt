@@ -1,15 +1,13 @@
 -- Ranges that may be read: none of their addresses is barred. Stores bring no page.
-use Rattle.std.proofs.Common.{◌≡◌, ℕ, zero, suc, ◌+◌, ◌<◌, ◌≤◌, ◌^◌, Bool, true, false, List, Option, Some, None, refl, ap, sym, subst, ◌∙◌, arith, inl, inr, slice_index}
-use Rattle.std.specs.Prelude.{◌*◌, ◌/◌, ◌&&◌, not, nat_le, nat_lt, if◌then◌else◌}
+use Rattle.std.proofs.Common.{◌≡◌, ℕ, zero, suc, ◌+◌, ◌<◌, ◌≤◌, ◌^◌, Bool, true, false, List, Option, Some, None, refl, ap, sym, ◌∙◌, arith, inl, inr, slice_index}
+use Rattle.std.specs.Prelude.{◌&&◌, not, nat_le, nat_lt, if◌then◌else◌}
 use Rattle.std.specs.Option.{is_some}
 use Rattle.std.specs.FinMap as map
 use Rattle.std.proofs.lemmas.Bool.{cases_lt}
 use Rattle.std.proofs.lemmas.Bool.Decides.{nat_tests}
-use Rattle.numbers.specs.Bytes.{little}
 use Rattle.machine_state.specs.Memory.{Mode, Readable, Writable, Page, Memory}
 use Rattle.machine_state.specs.Output.{is_readable, all_from, range_readable, output_range}
-use Rattle.page_memory.specs.Access.{mode_allows, page_allows, least_refused, with_bytes, stored, store}
-use Rattle.page_memory.proofs.Parts.{modes_stay}
+use Rattle.page_memory.specs.Access.{mode_allows, page_allows}
 use Rattle.page_memory.specs.Ranges.{is_barred, IsLeastBarred}
 
 readable_any : (mode : Mode) → mode_allows false mode ≡ true

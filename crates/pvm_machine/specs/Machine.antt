@@ -1,10 +1,8 @@
 -- A machine that runs a program: what it runs, and where it stands.
-use Rattle.std.specs.Prelude.{◌≡◌, ℕ, ◌<◌, List, None, refl}
-use Rattle.std.specs.FinMap as map
+use Rattle.std.specs.Prelude.{ℕ, List, refl}
 use Rattle.std.specs.Coded.{Coded, code_by, coded×, coded_ℕ, coded_list}
 use Rattle.runs.specs.Machine.{At}
 use Rattle.runs.specs.World.{World}
-use Rattle.machine_state.specs.Memory.{Memory}
 use Rattle.machine_state.specs.State.{State}
 use Rattle.machine_state.specs.Codes.{state_code}
 use Rattle.pvm_ops.specs.Listing.{Listing}

@@ -1,9 +1,11 @@
 -- What steps under gas leave and answer (JAM Gray Paper 0.7.0, appendix A).
-use Rattle.std.specs.Prelude.{◌≡◌, ℕ, zero, suc, ◌+◌, ◌-◌, ◌==◌, if◌then◌else◌, Option, Some, None}
+use Rattle.std.specs.Prelude.{◌≡◌, ℕ, zero, suc, ◌+◌, ◌-◌, ◌<◌, ◌==◌, true, if◌then◌else◌, Option, Some, None, slice_index}
 use Rattle.runs.specs.Machine.{Outcome, Next, Jump, Call, Ends}
 use Rattle.runs.specs.Laid.{Fetched}
 use Rattle.machine_state.specs.State.{State}
 use Rattle.machine_state.specs.Ends.{End, Halt, Panic, Fault, Unanswered, BadReply}
+use Rattle.machine_state.specs.Start.{pages_of}
+use Rattle.pvm_ops.specs.Listing.{Listing, is_marked}
 use Rattle.pvm_machine.specs.Machine.{Machine}
 use Rattle.pvm_machine.specs.Step.{Standing, does_at, instr_at}
 use Rattle.pvm_machine.specs.declared.answers.Step.{Step}
@@ -48,6 +50,16 @@ begun m (Some f) = came_out m f.next (does_at m.table m.code f.instr m.state)
 unfoldable pub stepped : Machine → Stepped
 stepped m = if m.gas == 0 then stayed m answer.OutOfGas else begun (record m { gas = m.gas - 1 }) (instr_at m.code m.counter)
 
+-- The step would map pages of the heap: its instruction is an `sbrk` that leads the heap's end into another page.
+abbrev pub MapsPages : Machine → Type 0
+MapsPages m = pages_of m.state.heap_top < pages_of (stepped m).machine.state.heap_top
+
+-- A step leaves and answers what is defined. Only where it would map pages an allocation can fail, and then it changes
+-- nothing.
+abbrev pub IsStep : Machine → Machine → Step → Type 0
+IsStep old new answer.Memory = (new ≡ old) × MapsPages old
+IsStep old new how = record { machine = new; answer = how } ≡ stepped old
+
 -- after a step that goes on to the next instruction come more steps, after any other none
 abbrev pub go_on : (Machine → Stepped) → Machine → Step → Stepped
 go_on more m answer.Next = more m
@@ -62,6 +74,21 @@ repeated (suc n) m = go_on (repeated n) (stepped m).machine (stepped m).answer
 abbrev pub all_steps : Machine → Stepped
 all_steps m = repeated m.gas m
 
+-- the given number of steps leads from a machine to another, and each goes on to the next instruction
+abbrev pub LeadsTo : ℕ → Machine → Machine → Type 0
+LeadsTo zero old new = new ≡ old
+LeadsTo (suc n) old new = ((stepped old).answer ≡ answer.Next) × LeadsTo n (stepped old).machine new
+
+-- steps that go on lead from a machine to another
+pub record CameTo (old new : Machine) : Type 0 where
+  pub steps : ℕ
+  pub leads : LeadsTo steps old new
+
+-- Repeated steps leave and answer what is defined. Where an allocation fails, they led to a step that would map pages.
+abbrev pub AreSteps : Machine → Machine → Step → Type 0
+AreSteps old new answer.Memory = CameTo old new × MapsPages new
+AreSteps old new how = record { machine = new; answer = how } ≡ all_steps old
+
 -- what a step with an answer costs: 1, where an instruction was begun
 abbrev pub Costs : Step → ℕ → ℕ → Type 0
 Costs answer.Next old new = old ≡ new + 1
@@ -72,15 +99,16 @@ Costs answer.OutOfGas old new = (old ≡ 0) × (new ≡ 0)
 Costs (answer.Host number) old new = old ≡ new + 1
 Costs answer.Memory old new = old ≡ new
 
--- the answers that steps give so far: no instruction calls the host or is refused memory
-abbrev pub IsGivenSoFar : Step → Type 0
-IsGivenSoFar answer.Next = Unit {0}
-IsGivenSoFar answer.Halt = Unit {0}
-IsGivenSoFar answer.Panic = Unit {0}
-IsGivenSoFar (answer.Fault address) = Unit {0}
-IsGivenSoFar answer.OutOfGas = Unit {0}
-IsGivenSoFar (answer.Host number) = ⊥
-IsGivenSoFar answer.Memory = ⊥
+-- an instruction that calls the host is marked at a position of the code
+pub record HasCall (code : Listing) : Type 0 where
+  pub at : ℕ
+  pub marked : is_marked code at ≡ true
+  pub call : slice_index code.bytes at ≡ 10
+
+-- only code with such an instruction calls the host
+abbrev pub CallsFrom : Listing → Step → Type 0
+CallsFrom code (answer.Host number) = HasCall code
+CallsFrom code how = Unit {0}
 
 -- what no step changes: the program, how far the heap may grow, and how many pages the memory may have
 pub record Keeps (old new : Machine) : Type 0 where

@@ -8,7 +8,7 @@ ghost use Rattle.pvm_ops.specs.Fetch.{IsHead, fetch_of, trap};
 ghost use Rattle.blob_check.specs.Starts.{is_start};
 ghost use Rattle.pvm_machine.specs.Effect.{branches, chosen};
 ghost use Rattle.pvm_machine.specs.Step.{land};
-ghost use Rattle.pvm_machine.specs.Outcomes.{outcome_of, put_as, Does, SameAfter};
+ghost use Rattle.pvm_machine.specs.Outcomes.{outcome_of, put_as, Does, IsPlain, SameAfter};
 
 use crate::accesses::{load, put_loaded, store};
 use crate::operation::{Operation, decode};
@@ -34,11 +34,16 @@ pub(crate) enum Outcome {
     Panic,
     /// It accessed the page at this address, which it may not, and wrote nothing.
     Fault(u32),
+    /// It calls the host by this number.
+    Call(u64),
+    /// The heap is to grow by a number of bytes, and a register to take where it ended. It wrote nothing so far.
+    Sbrk(u8, u64),
 }
 
 /// A jump to a position, and a panic where no block starts there.
 fn go(code: &Code<'_>, target: u64) -> Outcome
-    ensures { (s : State) → land (is_start code.now) (Jump target s) ≡ outcome_of result s }
+    ensures does { (s : State) → land (is_start code.now) (Jump target s) ≡ outcome_of result s }
+    ensures plain { IsPlain result }
 {
     if is_start(code, target) {
         Outcome::Jump(target)
@@ -49,7 +54,8 @@ fn go(code: &Code<'_>, target: u64) -> Outcome
 
 /// A jump to a position where two numbers compare so.
 fn branch(code: &Code<'_>, condition: Condition, x: u64, y: u64, target: u64) -> Outcome
-    ensures { (s : State) → land (is_start code.now) (branches condition x y target s) ≡ outcome_of result s }
+    ensures does { (s : State) → land (is_start code.now) (branches condition x y target s) ≡ outcome_of result s }
+    ensures plain { IsPlain result }
 {
     if condition.holds(x, y) {
         go(code, target)
@@ -82,7 +88,8 @@ fn named(program: &Program<'_>, number: u64) -> Option<u64>
 
 /// A jump by a number of 32 bits: it halts, or goes to the position that the jump table has for the number.
 fn go_by(code: &Code<'_>, program: &Program<'_>, number: u64) -> Outcome
-    ensures { (s : State) → land (is_start code.now) (jump_by halt panic program.now.table number s) ≡ outcome_of result s }
+    ensures does { (s : State) → land (is_start code.now) (jump_by halt panic program.now.table number s) ≡ outcome_of result s }
+    ensures plain { IsPlain result }
 {
     if number == 0xffff_0000 {
         return Outcome::Halt;
@@ -112,13 +119,14 @@ pub(crate) fn put(registers: &mut Registers, at: u8, value: u64) -> Outcome
 
 /// A register takes a value as the program jumps, and stays where the jump panics.
 fn put_as(outcome: Outcome, registers: &mut Registers, at: u8, value: u64) -> Outcome
-    requires { at ≤ 12 }
+    requires plain { IsPlain outcome }
+    requires register { at ≤ 12 }
     ensures same { result ≡ outcome }
     ensures registers { registers.new ≡ put_as outcome registers.old at value }
 {
     match outcome {
         Outcome::Next | Outcome::Jump(_) | Outcome::Halt => registers[usize::from(at)] = value,
-        Outcome::Panic | Outcome::Fault(_) => {}
+        Outcome::Panic | Outcome::Fault(_) | Outcome::Call(_) | Outcome::Sbrk(_, _) => {}
     }
     outcome
 }
@@ -181,7 +189,9 @@ pub(crate) fn act(
             let d = registers[instr.d as usize];
             put(registers, instr.d, chosen(condition, b, a, d))
         }
-        Operation::Trap | Operation::Ecalli | Operation::Sbrk => Outcome::Panic,
+        Operation::Trap => Outcome::Panic,
+        Operation::Ecalli => Outcome::Call(instr.x),
+        Operation::Sbrk => Outcome::Sbrk(instr.d, a),
     }
 }
 

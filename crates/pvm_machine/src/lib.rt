@@ -1,12 +1,13 @@
 //! The PVM: what instructions do, one step of the machine, and its run under gas.
 //!
 //! The machine is that of the JAM Gray Paper 0.7.0, appendix A. `specs/Operations.antt` has the operation of each opcode
-//! and `specs/Effect.antt` what it does, so far but for host calls and `sbrk`, which panic;
-//! `specs/Stepped.antt` has what one step leaves and answers.
+//! and `specs/Effect.antt` what it does; `specs/Stepped.antt` has what one step leaves and answers.
 #![tactic(auto)]
 
 mod accesses;
 mod answers;
+#[cfg(test)]
+mod heap_tests;
 mod instructions;
 mod laws;
 mod machine;

@@ -1,23 +1,24 @@
-ghost use Rattle.std.specs.Prelude.{◌≡◌, ◌≤◌, ◌<◌, ◌-◌, ◌*◌, ◌^◌, ◌↔◌, false, length, IfOk, Err, MatchOption};
+ghost use Rattle.std.specs.Prelude.{ℕ, ◌≡◌, ◌≤◌, ◌<◌, ◌+◌, ◌-◌, ◌*◌, ◌^◌, ◌↔◌, false, length, IfOk, OnErr, Err, MatchOption};
 ghost use Rattle.std.specs.Borrow.{sem};
 ghost use Rattle.std.specs.FinMap as map;
 ghost use Rattle.machine_state.specs.State.{register, with_register};
+ghost use Rattle.machine_state.specs.Heap.{sbrk};
 ghost use Rattle.machine_state.specs.Output.{output_range};
 ghost use Rattle.blob_check.specs.Starts.{is_start};
-ghost use Rattle.pvm_machine.specs.Stepped.{Costs, IsGivenSoFar, Keeps, stepped, all_steps};
+ghost use Rattle.pvm_machine.specs.Stepped.{AreSteps, CallsFrom, Costs, IsStep, Keeps};
 ghost use Rattle.pvm_machine.specs.Ran.{IsRun, last_answer};
-ghost use Rattle.machine_state.specs.Start.{start_registers};
+ghost use Rattle.machine_state.specs.Start.{pages_of, start_registers};
 ghost use Rattle.pvm_machine.specs.Started.{started};
 ghost use Rattle.pvm_machine.specs.Lending.{LendsMemory};
 
 use crate::answers::{Exit, StartFault, Step};
 use crate::instructions::{Outcome, Registers, act_at};
-use crate::start_memory::{FRAME_LIMIT, heap_bound, heap_top, start_memory};
+use crate::start_memory::{FRAME_LIMIT, heap_bound, heap_top, pages, start_memory};
 use blob_check::is_start;
 use blob_codec::{Container, Program};
-use page_memory::Memory;
+use page_memory::{MapFault, Memory, Mode};
 use pvm_ops::Code;
-use std::alloc::Global;
+use std::alloc::{AllocError, Global};
 use std::marker::Model;
 
 /// The most bytes that an argument may have.
@@ -43,6 +44,7 @@ pub struct Machine<'a> {
 }
 
 impl<'a> Model for Machine<'a> {
+    ghost use Rattle.std.specs.Prelude.{◌≤◌, ◌-◌, ◌^◌};
     ghost use Rattle.pvm_machine.specs.Machine.{Machine, machine_code};
 
     ghost Value = { Machine };
@@ -50,6 +52,9 @@ impl<'a> Model for Machine<'a> {
     ghost coded = { machine_code };
 
     ghost view = { λ m. record { table = m.program.table; code = m.code; counter = m.counter; state = record { registers = m.registers; memory = m.memory; heap_top = m.heap_top; heap_bound = m.heap_bound; frame_limit = m.frame_limit }; gas = m.gas } };
+
+    // so no page of the heap is below 2^16 or above 2^32
+    ghost invariant = { λ m. (2 ^ 16 ≤ m.heap_top) × (m.heap_bound ≤ 2 ^ 32 - 2 ^ 16) };
 }
 
 impl<'a> Machine<'a> {
@@ -93,12 +98,12 @@ impl<'a> Machine<'a> {
         })
     }
 
-    /// Does the instruction at the counter, where there is gas for it.
+    /// Does the instruction at the counter, where there is gas for it. Only an `sbrk` allocates; where that fails, nothing
+    /// changes and no gas is spent.
     pub fn step(&mut self) -> Step
-        ensures step { record { machine = self.new; answer = result } ≡ stepped self.old }
+        ensures step { IsStep self.old self.new result }
         ensures costs { Costs result self.old.gas self.new.gas }
         ensures keeps { Keeps self.old self.new }
-        ensures given { IsGivenSoFar result }
     {
         if self.gas == 0 {
             return Step::OutOfGas;
@@ -129,6 +134,21 @@ impl<'a> Machine<'a> {
             Outcome::Halt => Step::Halt,
             Outcome::Panic => Step::Panic,
             Outcome::Fault(page) => Step::Fault(page),
+            Outcome::Call(number) => {
+                self.counter = next;
+                Step::Host(number)
+            }
+            Outcome::Sbrk(register, size) => match self.grow(size) {
+                Ok(value) => {
+                    self.registers[usize::from(register)] = value;
+                    self.counter = next;
+                    Step::Next
+                }
+                Err(_) => {
+                    self.gas += 1;
+                    Step::Memory
+                }
+            },
         }
     }
 
@@ -136,15 +156,49 @@ impl<'a> Machine<'a> {
     // A function of its own, so that the steps have the processor's registers to themselves.
     #[inline(never)]
     pub fn run(&mut self) -> Exit
-        ensures steps { record { machine = self.new; answer = last_answer result } ≡ all_steps self.old }
+        ensures steps { AreSteps self.old self.new (last_answer result) }
         ensures run { IsRun self.old self.new (last_answer result) }
         ensures keeps { Keeps self.old self.new }
-        ensures given { IsGivenSoFar (last_answer result) }
+        ensures calls { CallsFrom self.old.code (last_answer result) }
     {
         loop {
             if let Some(exit) = last(self.step()) {
                 return exit;
             }
+        }
+    }
+
+    /// Makes the heap longer, as `sbrk` does, and returns what its register takes: where the heap ended before, and 0
+    /// where it may not grow so far.
+    ///
+    /// # Errors
+    /// An allocation fails, and nothing changed. That happens only where pages are mapped.
+    // Apart from the other instructions, which are many more.
+    #[inline(never)]
+    fn grow(&mut self, size: u64) -> Result<u64, AllocError>
+        ensures ok { IfOk result (λ value. (at : ℕ) → record self.old { state = sbrk self.old.state at size } ≡ record self.new { state = with_register self.new.state at value }) }
+        ensures err { OnErr result (self.new ≡ self.old) }
+        ensures maps { OnErr result ((at : ℕ) → pages_of self.old.state.heap_top < pages_of (sbrk self.old.state at size).heap_top) }
+    {
+        let top = self.heap_top;
+        if size == 0 {
+            return Ok(top);
+        }
+        if size > self.heap_bound || top > self.heap_bound - size {
+            return Ok(0);
+        }
+        let first = pages(top as usize);
+        let count = pages((top + size) as usize) - first;
+        match self
+            .memory
+            .map(first, count, Mode::Writable, self.frame_limit)
+        {
+            Ok(()) => {
+                self.heap_top = top + size;
+                Ok(top)
+            }
+            Err(MapFault::Full) => Ok(0),
+            Err(MapFault::Memory) => Err(AllocError),
         }
     }
 
@@ -177,6 +231,13 @@ impl<'a> Machine<'a> {
         ensures memory { result.now ≡ self.old.state.memory }
     {
         &mut self.memory
+    }
+
+    /// Sets how many pages the memory may have when the heap grows.
+    pub fn set_frame_limit(&mut self, limit: u32)
+        ensures { self.new ≡ record self.old { state = record self.old.state { frame_limit = limit } } }
+    {
+        self.frame_limit = limit;
     }
 
     /// The gas that is left.

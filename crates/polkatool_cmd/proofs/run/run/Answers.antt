@@ -13,7 +13,7 @@ returns-in-Err-clause-comes g c = RunComesTo-unread (run_in c.args.command.now) 
 pub returns-in-Ok-start-clause-comes : goal.returns-in-Ok-start-clause-comes
 returns-in-Ok-start-clause-comes g c =
     let asked = run_in c.args.command.now in
-    let starts = c.in-Ok-start.ensures in
+    let starts = c.in-Ok-start.ensures.starts in
     let holds : HoldsRun (g.F.Folder.files c.args.files.now) asked (run_of c.in-Ok-start.machine) = record {
       container = starts.container;
       holds = record {

@@ -1,16 +1,17 @@
-use Rattle.std.proofs.Common.{ap, refl, sym, ◌∙◌}
+use Rattle.std.proofs.Common.{◌≡◌, ℕ, List, ◌+◌, ◌-◌, ap, refl, subst, sym, arith, ◌∙◌}
 use Rattle.pvm_ops.specs.Fetch.{fetch_of}
-use Rattle.machine_state.specs.State.{State}
 use Rattle.pvm_machine.specs.Outcomes.{with_parts}
 use Rattle.pvm_machine.specs.Stepped.{stepped}
-use Rattle.pvm_machine.specs.declared.instructions.Outcome.TheVariants.{Next, Jump, Halt, Panic, Fault}
-use Rattle.pvm_machine.specs.declared.machine.Machine.TheInside.{Inside}
+use Rattle.pvm_machine.specs.declared.instructions.Outcome.TheVariants.{Next, Jump, Halt, Panic, Fault, Call, Sbrk}
+use Rattle.pvm_machine.specs.Machine.{Machine}
+use Rattle.pvm_machine.specs.Stepped.{Keeps, MapsPages}
+use Rattle.pvm_machine.proofs.Growing.{state_in, machine_in, with_state, grown_keeps, grown_costs, grown_goes}
+use Rattle.machine_state.specs.State.{with_register}
+use Rattle.machine_state.specs.Heap.{sbrk}
 use Rattle.pvm_machine.proofs.Steps.{fetched_step, no_step}
+use Rattle.pvm_machine.specs.declared.answers.Step.TheVariants as answer
+use Rattle.machine_state.specs.Memory.{Memory}
 use Rattle.pvm_machine.proofs.machine.Machine.step.Goals as goal
-
--- the state of a machine by its fields
-abbrev state_in : Inside → State
-state_in m = record { registers = m.registers; memory = m.memory; heap_top = m.heap_top; heap_bound = m.heap_bound; frame_limit = m.frame_limit }
 
 pub returns-then-self-eq0-clause-step : goal.returns-then-self-eq0-clause-step
 returns-then-self-eq0-clause-step c = rw (← c.self.view_is) (sym (no_step _ c.if-self-eq0.true))
@@ -40,3 +41,72 @@ returns-in-Fault-clause-step c =
     let memory = rw c.in-Fault.is at c.act_at-outcome.ensures.memory in
     rw (registers, memory)
     (sym (fetched_step _ (fetch_of c.self.inside.code c.self.inside.counter) _ (Fault c.in-Fault.page) (with_parts (state_in c.self.inside) c.act_at-outcome.new.registers c.act_at-outcome.new.memory) c.in-Fault.is c.if-self-eq0.false refl (c.act_at-outcome.ensures.does (state_in c.self.inside))) ∙ ap stepped c.self.view_is)
+
+pub returns-in-Call-clause-step : goal.returns-in-Call-clause-step
+returns-in-Call-clause-step c =
+    rw c.act_at-outcome.ensures.next (sym (fetched_step _ (fetch_of c.self.inside.code c.self.inside.counter) _ (Call c.in-Call.number) (with_parts (state_in c.self.inside) c.act_at-outcome.new.registers c.act_at-outcome.new.memory) c.in-Call.is c.if-self-eq0.false refl (c.act_at-outcome.ensures.does (state_in c.self.inside))) ∙ ap stepped c.self.view_is)
+
+-- the machine with the parts that an instruction left, and the machine behind the growth of its heap
+abbrev acted : (m : Machine) (registers : List ℕ) (memory : Memory) → Machine
+acted m registers memory = record m { state = with_parts m.state registers memory; gas = m.gas - 1 }
+
+pub returns-in-Ok-clause-step : goal.returns-in-Ok-clause-step
+returns-in-Ok-clause-step c =
+    let old : Machine = machine_in c.self.inside in
+    let m : Machine = acted old c.act_at-outcome.new.registers c.act_at-outcome.new.memory in
+    let n : Machine = machine_in c.self-in-Sbrk.inside in
+    let Grown : Machine → Type 0 = λ x. with_state m (sbrk m.state c.in-Sbrk.register c.in-Sbrk.size) ≡ with_state x (with_register x.state c.in-Sbrk.register c.in-Ok.value) in
+    let grown : Grown n = subst Grown (sym c.self-in-Sbrk.view_is) (c.in-Ok.ensures.ok c.in-Sbrk.register) in
+    let does = fetched_step old (fetch_of c.self.inside.code c.self.inside.counter) _ (Sbrk c.in-Sbrk.register c.in-Sbrk.size) m.state c.in-Sbrk.is c.if-self-eq0.false refl (c.act_at-outcome.ensures.does (state_in c.self.inside)) in
+    rw (c.from.ensures, c.act_at-outcome.ensures.next)
+    (ap (λ (x : Machine). record { machine = x; answer = answer.Next }) (grown_goes m n c.in-Sbrk.register c.in-Sbrk.size c.in-Ok.value grown (fetch_of c.self.inside.code c.self.inside.counter).next) ∙ sym does ∙ ap stepped c.self.view_is)
+
+pub returns-in-Ok-clause-costs : goal.returns-in-Ok-clause-costs
+returns-in-Ok-clause-costs c =
+    let old : Machine = machine_in c.self.inside in
+    let m : Machine = acted old c.act_at-outcome.new.registers c.act_at-outcome.new.memory in
+    let n : Machine = machine_in c.self-in-Sbrk.inside in
+    let Grown : Machine → Type 0 = λ x. with_state m (sbrk m.state c.in-Sbrk.register c.in-Sbrk.size) ≡ with_state x (with_register x.state c.in-Sbrk.register c.in-Ok.value) in
+    let grown : Grown n = subst Grown (sym c.self-in-Sbrk.view_is) (c.in-Ok.ensures.ok c.in-Sbrk.register) in
+    let costs = grown_costs m n c.in-Sbrk.register c.in-Sbrk.size c.in-Ok.value grown in
+    rw (← c.self.view_is) (omega (arith, costs, c.if-self-eq0.false))
+
+pub returns-in-Ok-clause-keeps : goal.returns-in-Ok-clause-keeps
+returns-in-Ok-clause-keeps c =
+    let old : Machine = machine_in c.self.inside in
+    let m : Machine = acted old c.act_at-outcome.new.registers c.act_at-outcome.new.memory in
+    let n : Machine = machine_in c.self-in-Sbrk.inside in
+    let Grown : Machine → Type 0 = λ x. with_state m (sbrk m.state c.in-Sbrk.register c.in-Sbrk.size) ≡ with_state x (with_register x.state c.in-Sbrk.register c.in-Ok.value) in
+    let grown : Grown n = subst Grown (sym c.self-in-Sbrk.view_is) (c.in-Ok.ensures.ok c.in-Sbrk.register) in
+    let keeps : Keeps m n = grown_keeps m n c.in-Sbrk.register c.in-Sbrk.size c.in-Ok.value grown in
+    rw (← c.self.view_is) (record { table = keeps.table; code = keeps.code; heap_bound = keeps.heap_bound; frame_limit = keeps.frame_limit })
+
+pub returns-in-Err-clause-step : goal.returns-in-Err-clause-step
+returns-in-Err-clause-step c =
+    let old : Machine = machine_in c.self.inside in
+    let m : Machine = acted old c.act_at-outcome.new.registers c.act_at-outcome.new.memory in
+    let n : Machine = machine_in c.self-in-Sbrk.inside in
+    let same : n ≡ m = c.self-in-Sbrk.view_is ∙ c.in-Err.ensures.err in
+    let registers = rw c.in-Sbrk.is at c.act_at-outcome.ensures.registers in
+    let memory = rw c.in-Sbrk.is at c.act_at-outcome.ensures.memory in
+    let gas : c.self.inside.gas - 1 + 1 ≡ c.self.inside.gas = omega (arith, c.if-self-eq0.false) in
+    let back : record m { gas = m.gas + 1 } ≡ old = rw (registers.1, memory.1) (ap (λ (g : ℕ). record old { gas = g }) gas) in
+    let does = fetched_step old (fetch_of c.self.inside.code c.self.inside.counter) _ (Sbrk c.in-Sbrk.register c.in-Sbrk.size) m.state c.in-Sbrk.is c.if-self-eq0.false refl (c.act_at-outcome.ensures.does (state_in c.self.inside)) in
+    let maps : MapsPages old = rw does (c.in-Err.ensures.maps c.in-Sbrk.register) in
+    (ap (λ (x : Machine). record x { gas = x.gas + 1 }) same ∙ back ∙ c.self.view_is, rw (← c.self.view_is) maps)
+
+pub returns-in-Err-clause-costs : goal.returns-in-Err-clause-costs
+returns-in-Err-clause-costs c =
+    let same : c.self-in-Sbrk.inside.gas ≡ c.self.inside.gas - 1 = ap (λ (x : Machine). x.gas) (c.self-in-Sbrk.view_is ∙ c.in-Err.ensures.err) in
+    rw (← c.self.view_is) (omega (arith, same, c.if-self-eq0.false))
+
+pub returns-in-Err-clause-keeps : goal.returns-in-Err-clause-keeps
+returns-in-Err-clause-keeps c =
+    let same = c.self-in-Sbrk.view_is ∙ c.in-Err.ensures.err in
+    rw (← c.self.view_is)
+    (record {
+      table = ap (λ (x : Machine). x.table) same;
+      code = ap (λ (x : Machine). x.code) same;
+      heap_bound = ap (λ (x : Machine). x.state.heap_bound) same;
+      frame_limit = ap (λ (x : Machine). x.state.frame_limit) same;
+    })
