@@ -4,7 +4,7 @@ use Rattle.std.specs.Prelude.{slice_get, if◌then◌else◌}
 use Rattle.std.specs.List.{filter}
 use Rattle.std.proofs.lemmas.List.{append_assoc, append-nil, drop_all}
 use Rattle.std.proofs.lemmas.Option.{slice_get_within, slice_get-get_or}
-use Rattle.lift_blocks.specs.Marks.{chosen, numbered}
+use Rattle.lift_blocks.specs.Marks.{chosen}
 
 cond_front : {X : Type 0} (b : Bool) (x : X) (xs : List X) → cond b (x ∷ xs) xs ≡ (if b then x ∷ [] else []) ++ xs
 cond_front true x xs = refl
@@ -61,22 +61,6 @@ chosen_member {X} (b ∷ bs) (y ∷ xs) k x e = by_mark b k e (λ j f. chosen_me
     by_mark true zero e more = (0, e, refl)
     by_mark true (suc k) e more = (let r = more k e in (suc r.0, r.1, r.2))
     by_mark false k e more = (let r = more k e in (suc r.0, r.1, r.2))
-
--- a number is that of the element among those that are chosen
-numbered_from : {X : Type 0} (bs : List Bool) (xs : List X) (n j k : ℕ) (x : X) → slice_get xs j ≡ Some x → slice_get (numbered n bs) j ≡ Some (Some k) → (i : ℕ) × (k ≡ n + i) × (slice_get (chosen bs xs) i ≡ Some x)
-numbered_from [] xs n j k x e m = absurd cc
-numbered_from (b ∷ bs) [] n j k x e m = absurd cc
-numbered_from (true ∷ bs) (y ∷ xs) n zero k x e m = (let same : n ≡ k = cc in (0, omega (arith, same), e))
-numbered_from (false ∷ bs) (y ∷ xs) n zero k x e m = absurd cc
-numbered_from (true ∷ bs) (y ∷ xs) n (suc j) k x e m = (let r = numbered_from bs xs (n + 1) j k x e m in let c = r.1 in (suc r.0, omega (arith, c), r.2))
-numbered_from (false ∷ bs) (y ∷ xs) n (suc j) k x e m = numbered_from bs xs n j k x e m
-
-pub numbered_at : {X : Type 0} (bs : List Bool) (xs : List X) (j k : ℕ) (x : X) → slice_get xs j ≡ Some x → slice_get (numbered 0 bs) j ≡ Some (Some k) → slice_get (chosen bs xs) k ≡ Some x
-numbered_at bs xs j k x e m =
-    let r = numbered_from bs xs 0 j k x e m in
-    let c = r.1 in
-    let same : k ≡ r.0 = omega (arith, c) in
-    rw same r.2
 
 -- ---- a list that a loop makes of the marked elements
 

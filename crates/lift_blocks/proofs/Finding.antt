@@ -1,13 +1,16 @@
 -- The search for a place among places in code order.
-use Rattle.std.proofs.Common.{◌≡◌, ⊎_elim, ℕ, zero, suc, ◌+◌, ◌<◌, ◌≤◌, Bool, true, false, ltb, List, [], ◌∷◌, length, map, get_or, Option, Some, None, refl, ap, arith}
+use Rattle.std.proofs.Common.{◌≡◌, ⊎_elim, ℕ, zero, suc, ◌+◌, ◌<◌, ◌≤◌, Bool, true, false, ltb, List, [], ◌∷◌, length, map, get_or, Option, Some, None, refl, sym, ap, ◌∙◌, subst, arith}
 use Rattle.std.specs.Prelude.{slice_get, ◌&&◌}
 use Rattle.std.specs.List.{position, position_or_len}
 use Rattle.std.proofs.lemmas.Bool.{cases_lt, eqb-true}
+use Rattle.std.specs.Option.{option_map}
+use Rattle.std.proofs.lemmas.List.{length-map}
 use Rattle.std.proofs.lemmas.Option.{slice_get_within, slice_get-get_or}
+use Rattle.std.proofs.lemmas.Option.{slice_get-map as get_map}
 use Rattle.lift_blocks.specs.declared.site.Site.{Site}
 use Rattle.relocs.specs.Places.{CodePlace, Code, Stub, Nowhere, same_place}
 use Rattle.lift_blocks.specs.Kept.{site_of}
-use Rattle.lift_blocks.specs.Rank.{rank_of, Ascends}
+use Rattle.lift_blocks.specs.Rank.{rank_of, Ascends, IsFirstFrom, is_that}
 
 both_true : (a b : Bool) → (a && b) ≡ true → (a ≡ true) × (b ≡ true)
 both_true true b e = (refl, e)
@@ -63,21 +66,23 @@ position_none test (y ∷ xs) none =
     let rest = position_none test xs (λ k z e. none (suc k) z e) in
     rw (none 0 y refl) (omega (arith, rest))
 
--- a place that was looked for in order: those below an index stand before it, those from it on don't
-pub found : (places : List CodePlace) (p : CodePlace) (low : ℕ) (q : CodePlace) → ((k : ℕ) (r : CodePlace) → k < low → slice_get places k ≡ Some r → rank_of r < rank_of p) → slice_get places low ≡ Some q → same_place p q ≡ true → position (same_place p) places ≡ Some low
-found places p low q below e same =
-    let at = position_found (same_place p) places low q e same (λ k r l f. other_rank p r (λ same_rank. let b = below k r l f in omega (arith, same_rank, b))) in
-    let within = slice_get_within places low q e in
-    rw at (let t : ltb low (length places) ≡ true = grind (arith, within) in rw t refl)
+that_is : (p : CodePlace) (o : Option CodePlace) → is_that p o ≡ true → (q : CodePlace) × (o ≡ Some q) × (same_place p q ≡ true)
+that_is p None e = absurd cc
+that_is p (Some q) e = (q, refl, e)
 
-pub absent :
-    (places : List CodePlace) (p : CodePlace) (low high : ℕ) → Ascends places
-    → ((k : ℕ) (q : CodePlace) → k < low → slice_get places k ≡ Some q → rank_of q < rank_of p)
-    → ((k : ℕ) (q : CodePlace) → high ≤ k → slice_get places k ≡ Some q → rank_of p ≤ rank_of q)
-    → high ≤ low
-    → ((q : CodePlace) → slice_get places low ≡ Some q → same_place p q ≡ false)
-    → position (same_place p) places ≡ None
-absent places p low high ordered below above le here =
+-- the place is where it is found: those before it have lesser ranks
+pub found : (places : List CodePlace) (p : CodePlace) (i : ℕ) → Ascends places → is_that p (slice_get places i) ≡ true → position (same_place p) places ≡ Some i
+found places p i ordered that =
+    let here = that_is p (slice_get places i) that in
+    let q = here.0 in
+    let is = place_same p q here.2 in
+    let at = position_found (same_place p) places i q here.1 here.2 (λ k r l f. other_rank p r (λ same_rank. let b = ordered.rises k i r q l f here.1 in let same : rank_of p ≡ rank_of q = ap rank_of is in omega (arith, same_rank, same, b))) in
+    let within = slice_get_within places i q here.1 in
+    rw at (let t : ltb i (length places) ≡ true = grind (arith, within) in rw t refl)
+
+-- it is nowhere, where it isn't at the first index at which no place before it is
+pub absent : (places : List CodePlace) (p : CodePlace) (low : ℕ) → Ascends places → IsFirstFrom places p 0 (length places) low → is_that p (slice_get places low) ≡ false → position (same_place p) places ≡ None
+absent places p low ordered first other =
     let at = position_none (same_place p) places each in
     rw at (let t : ltb (length places) (length places) ≡ false = grind arith in rw t refl)
   where
@@ -85,12 +90,15 @@ absent places p low high ordered below above le here =
     past k q l e None n = (let a = past_le places low n in let b = slice_get_within places k q e in absurd (omega (arith, a, b, l)))
     past k q l e (Some r) n =
         let a = ordered.rises low k r q l n e in
-        let b = above low r le n in
+        let b = first.above low r (omega arith) (slice_get_within places low r n) n in
         other_rank p q (λ same_rank. omega (arith, a, b, same_rank))
+
+    here : (q : CodePlace) → slice_get places low ≡ Some q → same_place p q ≡ false
+    here q e = sym (ap (is_that p) e) ∙ other
 
     each : (k : ℕ) (q : CodePlace) → slice_get places k ≡ Some q → same_place p q ≡ false
     each k q e =
-        ⊎_elim (λ l. other_rank p q (λ same_rank. let b = below k q l e in omega (arith, b, same_rank)))
+        ⊎_elim (λ l. other_rank p q (λ same_rank. let b = first.below k q (omega arith) l e in omega (arith, b, same_rank)))
         (λ l. ⊎_elim (λ m. past k q m e (slice_get places low) refl) (λ m. let same : k ≡ low = omega (arith, l, m) in here q (rw (← same) e)) (cases_lt low k))
         (cases_lt k low)
 
@@ -129,3 +137,11 @@ mapped_past (p ∷ ps) (suc i) q le e = mapped_past ps i q (omega (arith, le)) e
 -- one element stands at one index
 pub some_same : {A : Type 0} {o : Option A} {x y : A} → o ≡ Some x → o ≡ Some y → x ≡ y
 some_same e f = cc
+
+-- the search for a place of a list of the program
+pub site_found : (ps : List Site) (p : CodePlace) (i : ℕ) → Ascends (map site_of ps) → is_that p (option_map site_of (slice_get ps i)) ≡ true → Some i ≡ position (same_place p) (map site_of ps)
+site_found ps p i ordered that = sym (found (map site_of ps) p i ordered (ap (is_that p) (get_map site_of ps i) ∙ that))
+
+pub site_absent : (ps : List Site) (p : CodePlace) (i : ℕ) → Ascends (map site_of ps) → IsFirstFrom (map site_of ps) p 0 (length ps) i → is_that p (option_map site_of (slice_get ps i)) ≡ false → None ≡ position (same_place p) (map site_of ps)
+site_absent ps p i ordered first other =
+    sym (absent (map site_of ps) p i ordered (subst (λ n. IsFirstFrom (map site_of ps) p 0 n i) (sym (length-map ps site_of)) first) (ap (is_that p) (get_map site_of ps i) ∙ other))

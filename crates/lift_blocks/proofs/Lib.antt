@@ -16,6 +16,7 @@ pub mod Faultless
 pub mod Relocated
 pub mod Taken
 pub mod PlainRows
+pub mod Linking
 pub mod Links
 pub mod CodeRoom
 pub mod PairRows

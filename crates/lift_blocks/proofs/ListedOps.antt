@@ -3,7 +3,7 @@ use Rattle.std.proofs.Common.{◌≡◌, ℕ, zero, suc, ◌+◌, ◌<◌, ◌�
 use Rattle.std.specs.Prelude.{slice_get, not, ◌||◌, nat_lt}
 use Rattle.std.specs.List.{AllByRecursion, filter_map, cons_option, position, position_or_len}
 use Rattle.std.specs.Option.{option_map}
-use Rattle.std.proofs.lemmas.List.{length-map, append_assoc}
+use Rattle.std.proofs.lemmas.List.{length-map, append_assoc, append-nil}
 use Rattle.std.proofs.lemmas.List.Folds.{list_any-append}
 use Rattle.std.proofs.lemmas.List.Sums.{passes_at_first}
 use Rattle.std.proofs.lemmas.Option.{slice_get-map, slice_get_within, slice_get-get_or, get_or_from_slice_get}
@@ -14,17 +14,18 @@ use Rattle.relocs.specs.AddressMap.{named_places, needed_places}
 use Rattle.lift_blocks.specs.declared.placed_op.PlacedOp.{PlacedOp}
 use Rattle.lift_blocks.specs.declared.site.Site.{Site}
 use Rattle.lift_blocks.specs.declared.source_op.SourceOp.{SourceOp}
-use Rattle.lift_blocks.specs.Operations.{Operation, rename, operation_at}
+use Rattle.lift_blocks.specs.Operations.{Operation, Plain, Branch, Jal, Jalr, Pair, HostCall, Sbrk, rename, operation_at}
 use Rattle.lift_blocks.specs.Fits.{FitsInstructions}
 use Rattle.lift_blocks.specs.Kept.{site_of, operation_of, IsInRange}
 use Rattle.lift_blocks.specs.Listed.{Lifted, IsLifted, aimed_places, onward_places, entry_places, target_in, target_at, target_of, is_end, is_emitted, code_places, ends_at, ends_block, starts, place, or_nowhere}
-use Rattle.lift_blocks.specs.Listing.{AreOperations, AreNumbers, IsNumberOf, AreNumbersOf, HasTargetIn, IsNumbered, AreNumbered, begins_from, placed_operations}
-use Rattle.lift_blocks.specs.Marks.{with_marks, chosen, numbered}
+use Rattle.lift_blocks.specs.Listing.{AreOperations, AreListed, IsNumberOf, AreNumbersOf, HasTargetIn, IsNumbered, AreNumbered, begins_from, placed_operations}
+use Rattle.lift_blocks.specs.Marks.{with_marks, chosen}
+use Rattle.lift_blocks.specs.Rank.{rank_of, Ascends}
 use Rattle.lift_blocks.specs.PlacedOps.{placed_operation_of}
 use Rattle.std.proofs.lemmas.Bool.{ltb-true}
 use Rattle.lift_blocks.proofs.Finding.{place_same}
-use Rattle.lift_blocks.proofs.Marking.{has_these}
-use Rattle.lift_blocks.proofs.Choosing.{chosen_filter, chosen_map, numbered_at}
+use Rattle.lift_blocks.proofs.Marking.{has_these, tail}
+use Rattle.lift_blocks.proofs.Choosing.{chosen_filter, chosen_map, chosen_member, chosen_at_most, length_chosen}
 
 -- ---- lists
 
@@ -117,21 +118,36 @@ emitted_more given ps reached now new i p end mark e are marked ends was added =
 -- ---- blocks
 
 -- which operations begin a block, from an index on
-pub begins_step : (ended : Bool) (aimed : List Bool) (ops : List PlacedOp) (i : ℕ) (d : PlacedOp) → i < length ops → length aimed ≡ length ops
-    → begins_from ended (drop i aimed) (placed_operations (drop i ops)) ≡ (ended || get_or aimed i false) ∷ begins_from (ends_block (placed_operation_of (get_or ops i d))) (drop (i + 1) aimed) (placed_operations (drop (i + 1) ops))
+pub begins_step : (ended : Bool) (aimed : List Bool) (ops : List SourceOp) (i : ℕ) (d : SourceOp) → i < length ops → length aimed ≡ length ops
+    → begins_from ended (drop i aimed) (map operation_of (drop i ops)) ≡ (ended || get_or aimed i false) ∷ begins_from (ends_block (operation_of (get_or ops i d))) (drop (i + 1) aimed) (map operation_of (drop (i + 1) ops))
 begins_step ended aimed ops i d lt same =
     let within : i < length aimed = omega (arith, lt, same) in
     rw (add-one, drop-cons aimed i false within, drop-cons ops i d lt) refl
 
 -- the same, with what the code finds there
-pub begins_more : (ended begins next : Bool) (aimed : List Bool) (ops : List PlacedOp) (i : ℕ) (o : PlacedOp) → slice_get ops i ≡ Some o → length aimed ≡ length ops → begins ≡ (ended || get_or aimed i false) → next ≡ ends_block (placed_operation_of o)
-    → begins_from ended (drop i aimed) (placed_operations (drop i ops)) ≡ begins ∷ begins_from next (drop (i + 1) aimed) (placed_operations (drop (i + 1) ops))
+pub begins_more : (ended begins next : Bool) (aimed : List Bool) (ops : List SourceOp) (i : ℕ) (o : SourceOp) → slice_get ops i ≡ Some o → length aimed ≡ length ops → begins ≡ (ended || get_or aimed i false) → next ≡ ends_block (operation_of o)
+    → begins_from ended (drop i aimed) (map operation_of (drop i ops)) ≡ begins ∷ begins_from next (drop (i + 1) aimed) (map operation_of (drop (i + 1) ops))
 begins_more ended begins next aimed ops i o e same is after =
     let more = drop (i + 1) aimed in
-    let rest = placed_operations (drop (i + 1) ops) in
+    let rest = map operation_of (drop (i + 1) ops) in
     begins_step ended aimed ops i o (slice_get_within ops i o e) same
-    ∙ ap (λ b. b ∷ begins_from (ends_block (placed_operation_of (get_or ops i o))) more rest) (sym is)
-    ∙ ap (λ b. begins ∷ begins_from b more rest) (ap (λ x. ends_block (placed_operation_of x)) (get_or_from_slice_get ops i o o e) ∙ sym after)
+    ∙ ap (λ b. b ∷ begins_from (ends_block (operation_of (get_or ops i o))) more rest) (sym is)
+    ∙ ap (λ b. begins ∷ begins_from b more rest) (ap (λ x. ends_block (operation_of x)) (get_or_from_slice_get ops i o o e) ∙ sym after)
+
+-- names of targets don't matter for it
+ends_renamed : (f : ℕ → CodePlace) (op : Operation ℕ) → ends_block (rename f op) ≡ ends_block op
+ends_renamed f (Plain op) = refl
+ends_renamed f (Branch cond rs1 rs2 target) = refl
+ends_renamed f (Jal rd link target) = refl
+ends_renamed f (Jalr rd rs1 imm link) = refl
+ends_renamed f (Pair temp rd link target) = refl
+ends_renamed f (HostCall number) = refl
+ends_renamed f Sbrk = refl
+
+begins_renamed : (f : ℕ → CodePlace) (ended : Bool) (bs : List Bool) (ops : List (Operation ℕ)) → begins_from ended bs (map (rename f) ops) ≡ begins_from ended bs ops
+begins_renamed f ended [] ops = refl
+begins_renamed f ended (b ∷ bs) [] = refl
+begins_renamed f ended (b ∷ bs) (op ∷ ops) = rw (ends_renamed f op) (ap (λ l. (ended || b) ∷ l) (begins_renamed f (ends_block op) bs ops))
 
 starts_are : (given : Given) (ended : Bool) (ps : List CodePlace) (ops : List PlacedOp) → map (operation_at given) ps ≡ map (λ o. Some (placed_operation_of o)) ops → begins_from ended (map (has (aimed_places given)) ps) (placed_operations ops) ≡ starts given ended ps
 starts_are given ended [] [] e = refl
@@ -144,15 +160,6 @@ starts_are given ended (p ∷ ps) (o ∷ ops) e =
     rw (after, starts_are given (ends_block (placed_operation_of o)) ps ops rest) refl
 
 -- ---- numbers
-
-place_of_get : (places : List CodePlace) (k : ℕ) (p : CodePlace) → slice_get places k ≡ Some p → place places k ≡ p
-place_of_get places k p e = ap or_nowhere e
-
--- the number that is found is that of the place
-pub number_is : (places : List CodePlace) (emitted : List Bool) (numbers : List (Option ℕ)) (p : CodePlace) (at k : ℕ) → AreNumbers places emitted numbers → slice_get places at ≡ Some p → slice_get numbers at ≡ Some (Some k) → IsNumberOf (chosen emitted places) p k
-number_is places emitted numbers p at k are e m =
-    let there = numbered_at emitted places at k p e (ap (λ l. slice_get l at) (sym are.are) ∙ m) in
-    record { is = place_of_get (chosen emitted places) k p there; exists = slice_get_within (chosen emitted places) k p there }
 
 -- where a place is found it is that
 pub found_there : (p : CodePlace) (places : List CodePlace) (at : ℕ) → position (same_place p) places ≡ Some at → slice_get places at ≡ Some p
@@ -167,19 +174,31 @@ found_there p places at e = by_test (nat_lt (position_or_len (same_place p) plac
         subst (λ k. slice_get places k ≡ Some p) same (slice_get-get_or places n p within ∙ ap Some (sym is))
     by_test false s e = absurd cc
 
-length_numbered : (n : ℕ) (bs : List Bool) → length (numbered n bs) ≡ length bs
-length_numbered n [] = refl
-length_numbered n (b ∷ bs) = ap suc (length_numbered (cond b (n + 1) n) bs)
+-- and its number is where it is found
+pub number_found : (places : List CodePlace) (p : CodePlace) (at : ℕ) → position (same_place p) places ≡ Some at → IsNumberOf places p at
+number_found places p at e =
+    let there = found_there p places at e in
+    record { is = ap or_nowhere there; exists = slice_get_within places at p there }
 
--- and it has an entry among the numbers
-pub number_within : (places : List CodePlace) (emitted : List Bool) (numbers : List (Option ℕ)) (p : CodePlace) (at : ℕ) → AreNumbers places emitted numbers → position (same_place p) places ≡ Some at → at < length numbers
-number_within places emitted numbers p at are e =
-    let within = slice_get_within places at p (found_there p places at e) in
-    omega (arith, within, are.count, ap length are.are, length_numbered 0 emitted)
+-- what is chosen of places in code order is in code order
+ascends_chosen : (bs : List Bool) (ps : List CodePlace) → Ascends ps → Ascends (chosen bs ps)
+ascends_chosen [] ps a = record { rises = λ i j p q lt e f. absurd cc }
+ascends_chosen (b ∷ bs) [] a = record { rises = λ i j p q lt e f. absurd cc }
+ascends_chosen (false ∷ bs) (x ∷ ps) a = ascends_chosen bs ps (tail x ps a)
+ascends_chosen (true ∷ bs) (x ∷ ps) a = record { rises = rises (ascends_chosen bs ps (tail x ps a)) }
+  where
+    rises : Ascends (chosen bs ps) → (i j : ℕ) (p q : CodePlace) → i < j → slice_get (x ∷ chosen bs ps) i ≡ Some p → slice_get (x ∷ chosen bs ps) j ≡ Some q → rank_of p < rank_of q
+    rises rest i zero p q lt e f = absurd (omega (arith, lt))
+    rises rest zero (suc j) p q lt e f = (let r = chosen_member bs ps j q f in a.rises 0 (suc r.0) p q (omega arith) e r.1)
+    rises rest (suc i) (suc j) p q lt e f = rest.rises i j p q (omega (arith, lt)) e f
 
-pub number_found : (places : List CodePlace) (emitted : List Bool) (numbers : List (Option ℕ)) (p : CodePlace) (at k : ℕ) → AreNumbers places emitted numbers → position (same_place p) places ≡ Some at → get_or numbers at None ≡ Some k → IsNumberOf (chosen emitted places) p k
-number_found places emitted numbers p at k are e m =
-    number_is places emitted numbers p at k are (found_there p places at e) (slice_get-get_or numbers at None (number_within places emitted numbers p at are e) ∙ ap Some m)
+pub are_listed : (places listed : List Site) (emitted : List Bool) → Ascends (map site_of places) → length places ≤ 2 ^ 28 → listed ≡ chosen emitted places → AreListed (map site_of listed)
+are_listed places listed emitted ordered few are =
+    let same : map site_of listed ≡ chosen emitted (map site_of places) = ap (map site_of) are ∙ sym (chosen_map site_of emitted places) in
+    record {
+      ascend = subst Ascends (sym same) (ascends_chosen emitted (map site_of places) ordered);
+      few = omega (arith, length-map listed site_of, ap length are, chosen_at_most emitted places, few);
+    }
 
 -- numbers of places, one after another
 pub numbers_more : (places these : List CodePlace) (now new : List ℕ) (i : ℕ) (p : CodePlace) (number : ℕ) → slice_get these i ≡ Some p → AreNumbersOf places (take i these) now → IsNumberOf places p number → new ≡ now ++ number ∷ [] → AreNumbersOf places (take (i + 1) these) new
@@ -197,12 +216,40 @@ pub numbers_none : (places these : List CodePlace) → AreNumbersOf places (take
 numbers_none places these = record { are = refl; exist = tt }
 
 -- operations with numbers, one after another
-pub operations_more : (places : List CodePlace) (ops : List (Operation CodePlace)) (now new : List SourceOp) (i : ℕ) (op : Operation CodePlace) (numbered_op : SourceOp) → slice_get ops i ≡ Some op
-    → AreNumbered places (take i ops) (map operation_of now) → IsNumbered places op (operation_of numbered_op) → new ≡ now ++ numbered_op ∷ [] → AreNumbered places (take (i + 1) ops) (map operation_of new)
-operations_more places ops now new i op numbered_op e was is added =
+chosen_next : {X : Type 0} (bs : List Bool) (xs : List X) (i : ℕ) (b : Bool) (x : X) → slice_get bs i ≡ Some b → slice_get xs i ≡ Some x → chosen (take (i + 1) bs) (take (i + 1) xs) ≡ chosen (take i bs) (take i xs) ++ cond b (x ∷ []) []
+chosen_next {X = X} bs xs i b x e f = ap (λ n. chosen (take n bs) (take n xs)) (add-one i) ∙ by_suc bs xs i e f
+  where
+    by_mark : (c : Bool) (y : X) (more rest last : List X) → more ≡ rest ++ last → cond c (y ∷ more) more ≡ cond c (y ∷ rest) rest ++ last
+    by_mark true y more rest last is = ap (λ l. y ∷ l) is
+    by_mark false y more rest last is = is
+
+    one : (c : Bool) (y : X) → cond c (y ∷ []) [] ≡ [] ++ cond c (y ∷ []) []
+    one c y = refl
+
+    by_suc : (bs : List Bool) (xs : List X) (i : ℕ) → slice_get bs i ≡ Some b → slice_get xs i ≡ Some x → chosen (take (suc i) bs) (take (suc i) xs) ≡ chosen (take i bs) (take i xs) ++ cond b (x ∷ []) []
+    by_suc [] xs i e f = absurd cc
+    by_suc (c ∷ bs) [] i e f = absurd cc
+    by_suc (c ∷ bs) (y ∷ xs) zero e f = (let mark : c ≡ b = cc in let same : y ≡ x = cc in rw (mark, same) (one b x))
+    by_suc (c ∷ bs) (y ∷ xs) (suc i) e f = by_mark c y (chosen (take (suc i) bs) (take (suc i) xs)) (chosen (take i bs) (take i xs)) (cond b (x ∷ []) []) (by_suc bs xs i e f)
+
+-- an operation that isn't listed changes nothing
+pub numbered_skip :
+    (places : List CodePlace) (emitted : List Bool) (ops : List PlacedOp) (i : ℕ) (o : PlacedOp) (now : List (Operation ℕ)) → slice_get emitted i ≡ Some false → slice_get ops i ≡ Some o
+    → AreNumbered places (placed_operations (chosen (take i emitted) (take i ops))) now → AreNumbered places (placed_operations (chosen (take (i + 1) emitted) (take (i + 1) ops))) now
+numbered_skip places emitted ops i o now mark e was =
+    subst (λ l. AreNumbered places (placed_operations l) now) (sym (append-nil (chosen (take i emitted) (take i ops))) ∙ sym (chosen_next emitted ops i false o mark e)) was
+
+-- and one that is listed comes with its number
+pub numbered_next :
+    (places : List CodePlace) (emitted : List Bool) (ops : List PlacedOp) (i : ℕ) (o : PlacedOp) (now new : List SourceOp) (numbered_op : SourceOp) → slice_get emitted i ≡ Some true → slice_get ops i ≡ Some o
+    → AreNumbered places (placed_operations (chosen (take i emitted) (take i ops))) (map operation_of now) → IsNumbered places (placed_operation_of o) (operation_of numbered_op) → new ≡ now ++ numbered_op ∷ []
+    → AreNumbered places (placed_operations (chosen (take (i + 1) emitted) (take (i + 1) ops))) (map operation_of new)
+numbered_next places emitted ops i o now new numbered_op mark e was is added =
+    let front = chosen (take i emitted) (take i ops) in
     let more : map operation_of new ≡ map operation_of now ++ operation_of numbered_op ∷ [] = ap (map operation_of) added ∙ map_append operation_of now (numbered_op ∷ []) in
-    rw (more, take_next ops i op e) (record {
-      are = map_append (rename (place places)) (map operation_of now) (operation_of numbered_op ∷ []) ∙ ap (λ l. l ++ rename (place places) (operation_of numbered_op) ∷ []) was.are ∙ ap (λ q. take i ops ++ q ∷ []) is.is;
+    rw (more, chosen_next emitted ops i true o mark e) (record {
+      are = map_append (rename (place places)) (map operation_of now) (operation_of numbered_op ∷ []) ∙ ap (λ l. l ++ rename (place places) (operation_of numbered_op) ∷ []) was.are ∙ ap (λ q. placed_operations front ++ q ∷ []) is.is
+          ∙ sym (map_append placed_operation_of front (o ∷ []));
       fit = all_push FitsInstructions (map operation_of now) (operation_of numbered_op) was.fit is.fits;
       targets = all_push (HasTargetIn (length places)) (map operation_of now) (operation_of numbered_op) was.targets is.target;
     })
@@ -211,33 +258,27 @@ operations_more places ops now new i op numbered_op e was is added =
     all_push P [] x f g = (g, tt)
     all_push P (y ∷ xs) x f g = (f.0, all_push P xs x f.1 g)
 
-pub operations_none : (places : List CodePlace) (ops : List (Operation CodePlace)) → AreNumbered places (take 0 ops) (map operation_of [])
-operations_none places ops = record { are = refl; fit = tt; targets = tt }
+pub numbered_all : (places : List CodePlace) (emitted : List Bool) (ops : List PlacedOp) (i : ℕ) (found : List (Operation ℕ)) → length ops ≤ i → length emitted ≡ length ops
+    → AreNumbered places (placed_operations (chosen (take i emitted) (take i ops))) found → AreNumbered places (placed_operations (chosen emitted ops)) found
+numbered_all places emitted ops i found past same are =
+    let a = take_all emitted i (omega (arith, past, same)) in
+    let b = take_all ops i past in
+    subst (λ l. AreNumbered places (placed_operations l) found) (ap (λ m. chosen m (take i ops)) a ∙ ap (chosen emitted) b) are
 
-all_chosen : {X : Type 0} (P : X → Type 0) (bs : List Bool) (xs : List X) → AllByRecursion P xs → AllByRecursion P (chosen bs xs)
-all_chosen P [] xs f = tt
-all_chosen P (b ∷ bs) [] f = tt
-all_chosen P (b ∷ bs) (x ∷ xs) f = by_mark b (all_chosen P bs xs f.1)
-  where
-    by_mark : (b : Bool) → AllByRecursion P (chosen bs xs) → AllByRecursion P (cond b (x ∷ chosen bs xs) (chosen bs xs))
-    by_mark true r = (f.0, r)
-    by_mark false r = r
+pub operations_none : (places : List CodePlace) → AreNumbered places [] []
+operations_none places = record { are = refl; fit = tt; targets = tt }
 
 all_at : {X : Type 0} (P : X → Type 0) (xs : List X) (i : ℕ) (x : X) → AllByRecursion P xs → slice_get xs i ≡ Some x → P x
 all_at P [] i x f e = absurd cc
 all_at P (y ∷ xs) zero x f e = (let same : y ≡ x = cc in subst P same f.0)
 all_at P (y ∷ xs) (suc i) x f e = all_at P xs i x f.1 e
 
--- those that are listed can be held as all can
-pub chosen_fit : (given : Given) (ps : List CodePlace) (ops : List PlacedOp) (emitted : List Bool) → AreOperations given ps ops → AllByRecursion (λ (o : PlacedOp). FitsInstructions (placed_operation_of o)) (chosen emitted ops)
-chosen_fit given ps ops emitted are = all_chosen (λ (o : PlacedOp). FitsInstructions (placed_operation_of o)) emitted ops are.fit
-
 -- ---- all together
 
 pub record IsList (given : Given) (emitted : List Bool) (ops : List PlacedOp) (lifted : Lifted) : Type 0 where
   pub places : lifted.places ≡ chosen emitted (all_places given)
   pub operations : AreNumbered lifted.places (placed_operations (chosen emitted ops)) lifted.ops
-  pub begins : lifted.begins ≡ begins_from true (chosen emitted (map (has (aimed_places given)) (all_places given))) (placed_operations (chosen emitted ops))
+  pub begins : lifted.begins ≡ begins_from true (chosen emitted (map (has (aimed_places given)) (all_places given))) lifted.ops
   pub entries : AreNumbersOf lifted.places (entry_places given) lifted.entries
   pub needed : AreNumbersOf lifted.places (needed_places given) lifted.needed
   pub map_is : lifted.map ≡ needed_places given
@@ -263,7 +304,8 @@ is_lifted given emitted ops lifted marked are list =
           at_place given lifted.places out chosen_ops q (rename (place lifted.places) op) list.places same there;
       ops_fit = λ q op e. all_at FitsInstructions lifted.ops q op list.operations.fit e;
       targets_exist = λ q t op e f. all_at (HasTargetIn (length lifted.places)) lifted.ops q op list.operations.targets e t f;
-      begins_are = list.begins ∙ ap (λ l. begins_from true l (placed_operations chosen_ops)) (chosen_map (has (aimed_places given)) emitted ps) ∙ starts_are given true out chosen_ops same ∙ sym (ap (starts given true) list.places);
+      begins_are = list.begins ∙ sym (begins_renamed (place lifted.places) true (chosen emitted (map (has (aimed_places given)) ps)) lifted.ops) ∙ ap (begins_from true (chosen emitted (map (has (aimed_places given)) ps))) list.operations.are
+          ∙ ap (λ l. begins_from true l (placed_operations chosen_ops)) (chosen_map (has (aimed_places given)) emitted ps) ∙ starts_are given true out chosen_ops same ∙ sym (ap (starts given true) list.places);
       map_is = list.map_is;
       imports_are = list.imports_are;
       entries_are = list.entries.are;
@@ -308,9 +350,30 @@ in_range given lifted is few few_needed few_entries = record {
 pub numbers_len : (places these : List CodePlace) (numbers : List ℕ) → AreNumbersOf places these numbers → length numbers ≡ length these
 numbers_len places these numbers are = sym (length-map numbers (place places)) ∙ ap length are.are
 
--- the same of equal lists
-pub numbered_as : (ps qs : List CodePlace) (ops others : List (Operation CodePlace)) (numbered : List (Operation ℕ)) → ps ≡ qs → ops ≡ others → AreNumbered ps ops numbered → AreNumbered qs others numbered
-numbered_as ps qs ops others numbered e f are = subst (λ q. AreNumbered q others numbered) e (subst (λ o. AreNumbered ps o numbered) f are)
+-- the list of these parts
+pub is_list :
+    (given : Given) (places listed needed : List Site) (ops : List PlacedOp) (emitted aimed named : List Bool) (entries : List CodePlace) (lifted : Lifted)
+    → map site_of places ≡ all_places given → emitted ≡ map (is_emitted given) (all_places given) → AreOperations given (all_places given) ops
+    → named ≡ map (has (named_places given)) (all_places given) → aimed ≡ chosen emitted (map (has (aimed_places given)) (all_places given)) → entries ≡ entry_places given
+    → listed ≡ chosen emitted places → needed ≡ chosen named places
+    → lifted.places ≡ map site_of listed → AreNumbered (map site_of listed) (placed_operations (chosen emitted ops)) lifted.ops → lifted.begins ≡ begins_from true aimed lifted.ops
+    → AreNumbersOf (map site_of listed) entries lifted.entries → AreNumbersOf (map site_of listed) (map site_of needed) lifted.needed
+    → lifted.map ≡ needed_places given → lifted.imports ≡ length given.wanted.imports → IsLifted given lifted
+is_list given places listed needed ops emitted aimed named entries lifted all marked are named_are aimed_are_these entries_are listed_are needed_are places_are numbered begins_are entry_numbers needed_numbers map_is imports_are =
+    is_lifted given emitted ops lifted marked are (record {
+      places = places_are ∙ ap (map site_of) listed_are ∙ sym (chosen_map site_of emitted places) ∙ ap (chosen emitted) all;
+      operations = subst (λ q. AreNumbered q (placed_operations (chosen emitted ops)) lifted.ops) (sym places_are) numbered;
+      begins = begins_are ∙ ap (λ a. begins_from true a lifted.ops) aimed_are_these;
+      entries = subst (λ q. AreNumbersOf q (entry_places given) lifted.entries) (sym places_are) (subst (λ t. AreNumbersOf (map site_of listed) t lifted.entries) entries_are entry_numbers);
+      needed = subst (λ q. AreNumbersOf q (needed_places given) lifted.needed) (sym places_are)
+          (subst (λ t. AreNumbersOf (map site_of listed) t lifted.needed) (ap (map site_of) needed_are ∙ needed_chosen given places named all named_are) needed_numbers);
+      map_is = map_is;
+      imports_are = imports_are;
+    })
 
-pub numbers_as : (ps qs these others : List CodePlace) (numbers : List ℕ) → ps ≡ qs → these ≡ others → AreNumbersOf ps these numbers → AreNumbersOf qs others numbers
-numbers_as ps qs these others numbers e f are = subst (λ q. AreNumbersOf q others numbers) e (subst (λ t. AreNumbersOf ps t numbers) f are)
+-- there are as many marks as operations that are listed
+pub marks_count : (given : Given) (places : List CodePlace) (emitted : List Bool) (ops : List PlacedOp) (found : List SourceOp) → AreOperations given (all_places given) ops → AreNumbered places (placed_operations (chosen emitted ops)) (map operation_of found)
+    → length (chosen emitted (map (has (aimed_places given)) (all_places given))) ≡ length found
+marks_count given places emitted ops found are numbered =
+    length_chosen emitted (map (has (aimed_places given)) (all_places given)) ops (length-map (all_places given) (has (aimed_places given)) ∙ count given (all_places given) ops are)
+    ∙ sym (length-map (chosen emitted ops) placed_operation_of) ∙ sym (ap length numbered.are) ∙ length-map (map operation_of found) (rename (place places)) ∙ length-map found operation_of

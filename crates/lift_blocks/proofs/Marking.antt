@@ -71,7 +71,7 @@ other_place p q e = by_test (same_place q p) refl
     by_test true f = (let same = place_same q p f in let self : same_place p q ≡ true = rw same (place_self p) in absurd cc)
     by_test false f = f
 
-tail : (q : CodePlace) (places : List CodePlace) → Ascends (q ∷ places) → Ascends places
+pub tail : (q : CodePlace) (places : List CodePlace) → Ascends (q ∷ places) → Ascends places
 tail q places up = record { rises = λ i j a b l e f. up.rises (suc i) (suc j) a b (omega (arith, l)) e f }
 
 -- a place that is not there marks nothing

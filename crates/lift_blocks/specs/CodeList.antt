@@ -1,11 +1,13 @@
 -- The places of code, section by section, as they are listed.
-use Rattle.std.specs.Prelude.{ℕ, List, Bool, true, false, not, length}
+use Rattle.std.specs.Prelude.{ℕ, List, Bool, true, false, not, length, Option, Some}
 use Rattle.std.specs.List.{filter}
 use Rattle.faults.specs.Present.{each_below}
 use Rattle.symbols.specs.Parts.{object_at}
 use Rattle.symbols.specs.Wanted.{Given, kept_objects}
 use Rattle.relocs.specs.Places.{CodePlace, code_at, section_offsets}
 use Rattle.elf_objects.specs.declared.parts.Relocation.{Relocation}
+use Rattle.rv_decode.specs.declared.ops.RvOp.{RvOp}
+use Rattle.rv_decode.specs.declared.ops.RvOp.TheVariants.{Jal, Jalr, Auipc}
 use Rattle.symbols.specs.Faults.{has_effect}
 use Rattle.relocs.specs.Kinds.{names_target}
 use Rattle.relocs.specs.Pairs.{is_second}
@@ -28,3 +30,10 @@ code_places_of given = each_below (length (kept_objects given)) (object_places g
 abbrev pub test_of : Bool → Relocation → Bool
 test_of true r = names_target r
 test_of false r = has_effect r.kind
+
+-- an operation, or a pair that begins with it, may keep a place in a register
+abbrev pub may_link : Option RvOp → Bool
+may_link (Some (Jal rd offset)) = true
+may_link (Some (Jalr rd rs1 imm)) = true
+may_link (Some (Auipc rd value)) = true
+may_link op = false

@@ -1,5 +1,5 @@
 -- The operations at all places, and those that are listed in code order.
-use Rattle.std.specs.Prelude.{◌≡◌, ℕ, ◌<◌, List, [], ◌∷◌, length, map, Option, Some, Bool, ◌||◌}
+use Rattle.std.specs.Prelude.{◌≡◌, ℕ, ◌<◌, ◌≤◌, ◌^◌, List, [], ◌∷◌, length, map, Some, Bool, ◌||◌}
 use Rattle.std.specs.List.{AllByRecursion}
 use Rattle.symbols.specs.Wanted.{Given}
 use Rattle.relocs.specs.Places.{CodePlace}
@@ -7,7 +7,6 @@ use Rattle.lift_blocks.specs.declared.placed_op.PlacedOp.{PlacedOp}
 use Rattle.lift_blocks.specs.Operations.{Operation, rename, operation_at}
 use Rattle.lift_blocks.specs.Fits.{FitsInstructions}
 use Rattle.lift_blocks.specs.Listed.{ends_block, target_of, place}
-use Rattle.lift_blocks.specs.Marks.{numbered}
 use Rattle.lift_blocks.specs.Rank.{Ascends}
 use Rattle.lift_blocks.specs.PlacedOps.{placed_operation_of}
 
@@ -36,16 +35,15 @@ pub record IsNumbered (places : List CodePlace) (op : Operation CodePlace) (numb
   pub target : HasTargetIn (length places) numbered
 
 -- which operations begin a block: those that something leads to, and those after the end of one
-abbrev pub begins_from : Bool → List Bool → List (Operation CodePlace) → List Bool
+abbrev pub begins_from : {Target : Type 0} → Bool → List Bool → List (Operation Target) → List Bool
 begins_from ended [] ops = []
 begins_from ended (b ∷ bs) [] = []
 begins_from ended (b ∷ bs) (op ∷ ops) = (ended || b) ∷ begins_from (ends_block op) bs ops
 
--- places in code order, marks for those that are listed, and the numbers of these
-pub record AreNumbers (places : List CodePlace) (emitted : List Bool) (numbers : List (Option ℕ)) : Type 0 where
+-- few places in code order, whose indices are the numbers of operations
+pub record AreListed (places : List CodePlace) : Type 0 where
   pub ascend : Ascends places
-  pub count : length emitted ≡ length places
-  pub are : numbers ≡ numbered 0 emitted
+  pub few : length places ≤ 2 ^ 28
 
 -- numbers name these places of the list
 pub record AreNumbersOf (places these : List CodePlace) (numbers : List ℕ) : Type 0 where

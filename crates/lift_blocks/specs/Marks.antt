@@ -1,5 +1,5 @@
 -- Marks at places, and what is chosen by marks.
-use Rattle.std.specs.Prelude.{ℕ, ◌+◌, List, [], ◌∷◌, fold, Option, Some, None, Bool, ◌||◌, cond}
+use Rattle.std.specs.Prelude.{List, [], ◌∷◌, fold, Bool, ◌||◌, cond}
 use Rattle.relocs.specs.Places.{CodePlace, same_place}
 
 -- marks at places, with one at this place
@@ -17,8 +17,3 @@ abbrev pub chosen : {X : Type 0} → List Bool → List X → List X
 chosen [] xs = []
 chosen (b ∷ bs) [] = []
 chosen (b ∷ bs) (x ∷ xs) = cond b (x ∷ chosen bs xs) (chosen bs xs)
-
--- the numbers of the elements that are marked, from a first one on
-abbrev pub numbered : ℕ → List Bool → List (Option ℕ)
-numbered n [] = []
-numbered n (b ∷ bs) = cond b (Some n) None ∷ numbered (cond b (n + 1) n) bs

@@ -227,11 +227,12 @@ impl CodeFaults<'_, '_> {
         requires section { IsCodeSection given object section }
         ensures { result ≡ (has_entry given object section offset && is_the_second given (Code object section offset)) }
     {
-        self.entries.has(Place::Code {
-            object,
-            section,
-            offset,
-        }) && self.reader.is_second(object, section, offset)
+        self.reader.is_second(object, section, offset)
+            && self.entries.has(Place::Code {
+                object,
+                section,
+                offset,
+            })
     }
 }
 

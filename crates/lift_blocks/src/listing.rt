@@ -1,6 +1,6 @@
 //! The operations in code order, from the operations at all places.
 
-ghost use Rattle.std.specs.Prelude.{◌≡◌, ◌≤◌, ◌^◌, ◌||◌, ◌++◌, not, true, length, map, Some, IfOk};
+ghost use Rattle.std.specs.Prelude.{◌≡◌, ◌≤◌, ◌^◌, ◌||◌, ◌++◌, not, true, length, map, map as each, Some, IfOk};
 ghost use Rattle.std.specs.List.{AllByRecursion, filter_map};
 ghost use Rattle.std.specs.Option.{option_map};
 ghost use Rattle.symbols.specs.Wanted.{Given};
@@ -12,7 +12,7 @@ ghost use Rattle.lift_blocks.specs.Fits.{FitsInstructions};
 ghost use Rattle.lift_blocks.specs.Kept.{site_of, operation_of};
 ghost use Rattle.lift_blocks.specs.Known.{AreAll, IsKnown};
 ghost use Rattle.lift_blocks.specs.Listed.{aimed_places, onward_places, entry_places, can_go_on as may_go_on, ends_block as does_end, target_of as the_target, is_emitted, is_end as is_the_end, IsLifted, onward_of};
-ghost use Rattle.lift_blocks.specs.Listing.{AreOperations, AreNumbers, IsNumberOf, AreNumbersOf, IsNumbered, AreNumbered, begins_from, placed_operations};
+ghost use Rattle.lift_blocks.specs.Listing.{AreOperations, AreListed, IsNumberOf, AreNumbersOf, IsNumbered, AreNumbered, begins_from, placed_operations};
 ghost use Rattle.lift_blocks.specs.Marks.{chosen as the_chosen, with_marks};
 ghost use Rattle.lift_blocks.specs.Rank.{Ascends};
 ghost use Rattle.lift_blocks.specs.declared.placed_op.PlacedOp.{PlacedOp as ThePlacedOp};
@@ -20,7 +20,7 @@ ghost use Rattle.lift_blocks.specs.Operations.{operation_at};
 ghost use Rattle.lift_blocks.specs.PlacedOps.{placed_operation_of};
 
 use crate::lifted::Lifted;
-use crate::marks::{chosen, mark, mark_any, no_marks, numbered};
+use crate::marks::{chosen, mark, mark_any, no_marks};
 use crate::placed_op::PlacedOp;
 use crate::reader::Reader;
 use crate::search::find;
@@ -65,24 +65,43 @@ pub(crate) fn list(
 {
     let aimed = aimed_marks(alloc, survey)?;
     let emitted = emitted_marks(alloc, reader, survey, &aimed)?;
-    let numbers = numbered(alloc, &emitted)?;
-    let listed = Numbers {
-        places: survey.places,
-        emitted: &emitted,
-        numbers: &numbers,
-    };
-    let ops = chosen(alloc, survey.ops, &emitted)?;
+    let places = chosen(alloc, survey.places, &emitted)?;
     let aimed = chosen(alloc, &aimed, &emitted)?;
     let needed = chosen(alloc, survey.places, survey.needed)?;
-    Ok(Lifted {
-        places: chosen(alloc, survey.places, &emitted)?,
-        ops: listed.operations(alloc, &ops)?,
-        begins: begins(alloc, &ops, &aimed)?,
-        entries: listed.numbers_of(alloc, survey.entries)?,
-        needed: listed.numbers_of(alloc, &needed)?,
-        map: address_map,
+    let numbers = Numbers { places: &places };
+    let ops = numbers.operations(alloc, survey.ops, &emitted)?;
+    let begins = begins(alloc, &ops, &aimed)?;
+    let entries = numbers.numbers_of(alloc, survey.entries)?;
+    let needed = numbers.numbers_of(alloc, &needed)?;
+    Ok(lifted(places, ops, begins, entries, needed, address_map, imports))
+}
+
+/// The operations in code order, of these parts.
+fn lifted(
+    places: Vec<Site>,
+    ops: Vec<SourceOp>,
+    begins: Vec<bool>,
+    entries: Vec<u32>,
+    needed: Vec<u32>,
+    map: CodeMap,
+    imports: u32,
+) -> Lifted
+    ghost given: { Given }
+    requires lifted { IsLifted given (record { places = each site_of places.items; ops = each operation_of ops.items; begins = begins.items; entries = entries.items; needed = needed.items; map = map; imports = imports }) }
+    requires few { length places.items ≤ 2 ^ 28 }
+    requires few_needed { length map ≤ 2 ^ 28 }
+    requires few_entries { length entries.items ≤ 1000 }
+    ensures { IsLifted given result }
+{
+    Lifted {
+        places,
+        ops,
+        begins,
+        entries,
+        needed,
+        map,
         imports,
-    })
+    }
 }
 
 /// Whether each place begins a block wherever it is: as an entry, as a target or as a needed place.
@@ -131,7 +150,7 @@ fn mark_all(places: &[Site], marks: &mut [bool], these: &[Site])
     ensures { marks.new ≡ with_marks (map site_of places.now) marks.old (map site_of these.now) }
 {
     for at in 0..these.len() {
-        mark(places, marks, these[at]);
+        mark(places, marks, these[at], at);
     }
 }
 
@@ -142,7 +161,8 @@ fn mark_targets(places: &[Site], marks: &mut [bool], ops: &[PlacedOp])
     ensures { marks.new ≡ with_marks (map site_of places.now) marks.old (filter_map the_target (placed_operations ops.now)) }
 {
     for at in 0..ops.len() {
-        mark_any(places, marks, target_of(ops[at]));
+        let target = target_of(ops[at]);
+        mark_any(places, marks, target, likely(places, at, target));
     }
 }
 
@@ -214,7 +234,7 @@ fn mark_onward(reader: &Reader<'_, '_>, places: &[Site], marks: &mut [bool], ops
     ensures { marks.new ≡ with_marks (all_places given) marks.old (onward_places given) }
 {
     for at in 0..places.len() {
-        mark_any(places, marks, onward(reader, places[at], ops[at]));
+        mark_any(places, marks, onward(reader, places[at], ops[at]), at + 1);
     }
 }
 
@@ -244,20 +264,6 @@ fn can_go_on(op: PlacedOp) -> bool
     }
 }
 
-/// Whether a block ends with an operation.
-fn ends_block(op: PlacedOp) -> bool
-    ensures { result ≡ does_end (placed_operation_of op) }
-{
-    match op {
-        PlacedOp::Plain(op) => matches!(op, RvOp::Trap),
-        PlacedOp::Branch { .. }
-        | PlacedOp::Jal { .. }
-        | PlacedOp::Jalr { .. }
-        | PlacedOp::Pair { .. } => true,
-        PlacedOp::Host(_) | PlacedOp::Sbrk => false,
-    }
-}
-
 /// Whether a place is the end of a section.
 fn is_end(reader: &Reader<'_, '_>, place: Site) -> bool
     ghost given: { Given }
@@ -270,15 +276,15 @@ fn is_end(reader: &Reader<'_, '_>, place: Site) -> bool
             object,
             section,
             offset,
-        } => offset == reader.objects.object(object).section(section).content.len() as u64,
+        } => offset == reader.size(object, section) as u64,
         Site::Stub { .. } => false,
     }
 }
 
 /// Which of the listed operations begin a block.
-fn begins(alloc: Global, ops: &[PlacedOp], aimed: &[bool]) -> Result<Vec<bool>, AllocError>
+fn begins(alloc: Global, ops: &[SourceOp], aimed: &[bool]) -> Result<Vec<bool>, AllocError>
     requires { length aimed.now ≡ length ops.now }
-    ensures { IfOk result (λ begins. begins.items ≡ begins_from true aimed.now (placed_operations ops.now)) }
+    ensures { IfOk result (λ begins. begins.items ≡ begins_from true aimed.now (map operation_of ops.now)) }
 {
     let mut begins = Vec::with_capacity(alloc, ops.len())?;
     let mut ended = true;
@@ -289,68 +295,89 @@ fn begins(alloc: Global, ops: &[PlacedOp], aimed: &[bool]) -> Result<Vec<bool>, 
     Ok(begins)
 }
 
+/// Whether a block ends with an operation.
+fn ends_block(op: SourceOp) -> bool
+    ensures { result ≡ does_end (operation_of op) }
+{
+    match op {
+        SourceOp::Plain(op) => matches!(op, RvOp::Trap),
+        SourceOp::Branch { .. }
+        | SourceOp::Jal { .. }
+        | SourceOp::Jalr { .. }
+        | SourceOp::Pair { .. } => true,
+        SourceOp::Host(_) | SourceOp::Sbrk => false,
+    }
+}
+
 fn either(ended: bool, aimed: bool) -> bool
     ensures { result ≡ (ended || aimed) }
 {
     ended || aimed
 }
 
-/// All places, which of them are listed, and the numbers of these.
+/// The listed places, by which operations have numbers.
 #[derive(Clone, Copy, Drop)]
 struct Numbers<'l> {
     places: &'l [Site],
-    emitted: &'l [bool],
-    numbers: &'l [Option<u32>],
 }
 
 impl Numbers<'_> {
-    /// The number of a place among the listed ones.
+    /// The number of a place among the listed ones, by one that it is likely near.
     ///
     /// # Errors
     /// Where the place isn't listed.
-    fn number_of(&self, place: Site) -> Result<u32, AllocError>
-        requires { AreNumbers (map site_of self.now.places.now) self.now.emitted.now self.now.numbers.now }
-        ensures { IfOk result (IsNumberOf (the_chosen self.now.emitted.now (map site_of self.now.places.now)) (site_of place)) }
+    fn number_of(&self, place: Site, near: usize) -> Result<u32, AllocError>
+        requires { AreListed (map site_of self.now.places.now) }
+        ensures { IfOk result (IsNumberOf (map site_of self.now.places.now) (site_of place)) }
     {
-        let Some(at) = find(self.places, place) else {
-            return Err(AllocError);
-        };
-        match self.numbers[at] {
-            Some(number) => Ok(number),
+        match find(self.places, place, near) {
+            Some(at) => Ok(at as u32),
             None => Err(AllocError),
         }
     }
 
-    /// The numbers of places.
+    /// The numbers of places. Each is likely near the one before.
     fn numbers_of(&self, alloc: Global, these: &[Site]) -> Result<Vec<u32>, AllocError>
-        requires { AreNumbers (map site_of self.now.places.now) self.now.emitted.now self.now.numbers.now }
-        ensures { IfOk result (λ found. AreNumbersOf (the_chosen self.now.emitted.now (map site_of self.now.places.now)) (map site_of these.now) found.items) }
+        requires { AreListed (map site_of self.now.places.now) }
+        ensures { IfOk result (λ found. AreNumbersOf (map site_of self.now.places.now) (map site_of these.now) found.items) }
     {
         let mut found = Vec::with_capacity(alloc, these.len())?;
+        let mut near = 0;
         for at in 0..these.len() {
-            found.push(self.number_of(these[at])?)?;
+            let number = self.number_of(these[at], near)?;
+            found.push(number)?;
+            near = number as usize;
         }
         Ok(found)
     }
 
-    /// Operations with numbers as targets.
-    fn operations(&self, alloc: Global, ops: &[PlacedOp]) -> Result<Vec<SourceOp>, AllocError>
-        requires numbers { AreNumbers (map site_of self.now.places.now) self.now.emitted.now self.now.numbers.now }
+    /// The operations that are listed, with numbers as targets.
+    fn operations(
+        &self,
+        alloc: Global,
+        ops: &[PlacedOp],
+        emitted: &[bool],
+    ) -> Result<Vec<SourceOp>, AllocError>
+        requires listed { AreListed (map site_of self.now.places.now) }
+        requires count { length emitted.now ≡ length ops.now }
         requires fit { AllByRecursion (λ (o : ThePlacedOp). FitsInstructions (placed_operation_of o)) ops.now }
-        ensures { IfOk result (λ found. AreNumbered (the_chosen self.now.emitted.now (map site_of self.now.places.now)) (placed_operations ops.now) (map operation_of found.items)) }
+        ensures { IfOk result (λ found. AreNumbered (map site_of self.now.places.now) (placed_operations (the_chosen emitted.now ops.now)) (map operation_of found.items)) }
     {
-        let mut found = Vec::with_capacity(alloc, ops.len())?;
+        let mut found = Vec::with_capacity(alloc, self.places.len())?;
         for at in 0..ops.len() {
-            found.push(self.operation(ops[at])?)?;
+            if emitted[at] {
+                let op = self.operation(ops[at], found.len())?;
+                found.push(op)?;
+            }
         }
         Ok(found)
     }
 
-    /// An operation with the number of its target.
-    fn operation(&self, op: PlacedOp) -> Result<SourceOp, AllocError>
-        requires numbers { AreNumbers (map site_of self.now.places.now) self.now.emitted.now self.now.numbers.now }
+    /// The operation with a number, with the number of its target.
+    fn operation(&self, op: PlacedOp, at: usize) -> Result<SourceOp, AllocError>
+        requires listed { AreListed (map site_of self.now.places.now) }
         requires fit { FitsInstructions (placed_operation_of op) }
-        ensures { IfOk result (λ found. IsNumbered (the_chosen self.now.emitted.now (map site_of self.now.places.now)) (placed_operation_of op) (operation_of found)) }
+        ensures { IfOk result (λ found. IsNumbered (map site_of self.now.places.now) (placed_operation_of op) (operation_of found)) }
     {
         Ok(match op {
             PlacedOp::Plain(op) => SourceOp::Plain(op),
@@ -363,12 +390,12 @@ impl Numbers<'_> {
                 cond,
                 rs1,
                 rs2,
-                target: self.number_of(target)?,
+                target: self.target(target, at)?,
             },
             PlacedOp::Jal { rd, link, target } => SourceOp::Jal {
                 rd,
                 link,
-                target: self.number_of(target)?,
+                target: self.target(target, at)?,
             },
             PlacedOp::Jalr { rd, rs1, imm, link } => SourceOp::Jalr { rd, rs1, imm, link },
             PlacedOp::Pair {
@@ -380,10 +407,33 @@ impl Numbers<'_> {
                 temp,
                 rd,
                 link,
-                target: self.number_of(target)?,
+                target: self.target(target, at)?,
             },
             PlacedOp::Host(number) => SourceOp::Host(number),
             PlacedOp::Sbrk => SourceOp::Sbrk,
         })
+    }
+
+    /// The number of the target of the operation with a number.
+    fn target(&self, target: Site, at: usize) -> Result<u32, AllocError>
+        requires { AreListed (map site_of self.now.places.now) }
+        ensures { IfOk result (IsNumberOf (map site_of self.now.places.now) (site_of target)) }
+    {
+        self.number_of(target, likely(self.places, at, Some(target)))
+    }
+}
+
+/// An index that the target of the operation at an index is likely near: in one section it is as many words away as the places
+/// are, but for pairs.
+fn likely(places: &[Site], at: usize, target: Option<Site>) -> usize {
+    match (places.get(at), target) {
+        (Some(Site::Code { offset, .. }), Some(Site::Code { offset: to, .. })) => {
+            if *offset <= to {
+                at.saturating_add(((to - *offset) / 4) as usize)
+            } else {
+                at.saturating_sub(((*offset - to) / 4) as usize)
+            }
+        }
+        _ => at,
     }
 }

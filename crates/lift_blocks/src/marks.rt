@@ -1,12 +1,12 @@
 //! Marks at places in code order, and what is chosen by marks.
 
-ghost use Rattle.std.specs.Prelude.{◌≡◌, ◌<◌, ◌+◌, ◌^◌, ◌++◌, ◌∷◌, [], length, map, None, Some, IfOk, OnOk, if◌then◌else◌};
+ghost use Rattle.std.specs.Prelude.{◌≡◌, ◌++◌, ◌∷◌, [], length, map, IfOk, OnOk, if◌then◌else◌};
 ghost use Rattle.std.specs.List.{cons_option};
 ghost use Rattle.std.specs.Option.{option_map};
 ghost use Rattle.relocs.specs.Places.{has};
 ghost use Rattle.lift_blocks.specs.Kept.{site_of};
 ghost use Rattle.lift_blocks.specs.Rank.{Ascends};
-ghost use Rattle.lift_blocks.specs.Marks.{with_mark, with_marks, chosen as the_chosen, numbered as the_numbered};
+ghost use Rattle.lift_blocks.specs.Marks.{with_mark, with_marks, chosen as the_chosen};
 
 use crate::search::find;
 use crate::site::Site;
@@ -20,20 +20,20 @@ pub(crate) fn no_marks(alloc: Global, places: &[Site]) -> Result<Vec<bool>, Allo
     vec![in alloc; false; places.len()]
 }
 
-/// Marks a place, where it is among these.
-pub(crate) fn mark(places: &[Site], marks: &mut [bool], place: Site)
+/// Marks a place, where it is among these, by an index that it is likely near.
+pub(crate) fn mark(places: &[Site], marks: &mut [bool], place: Site, near: usize)
     requires ascends { Ascends (map site_of places.now) }
     requires count { length marks.old ≡ length places.now }
     ensures { marks.new ≡ with_mark (map site_of places.now) marks.old (site_of place) }
 {
-    let Some(at) = find(places, place) else {
+    let Some(at) = find(places, place, near) else {
         return;
     };
     marks[at] = true;
 }
 
 /// Marks a place, if there is one.
-pub(crate) fn mark_any(places: &[Site], marks: &mut [bool], place: Option<Site>)
+pub(crate) fn mark_any(places: &[Site], marks: &mut [bool], place: Option<Site>, near: usize)
     requires ascends { Ascends (map site_of places.now) }
     requires count { length marks.old ≡ length places.now }
     ensures { marks.new ≡ with_marks (map site_of places.now) marks.old (cons_option (option_map site_of place) []) }
@@ -41,7 +41,7 @@ pub(crate) fn mark_any(places: &[Site], marks: &mut [bool], place: Option<Site>)
     let Some(place) = place else {
         return;
     };
-    mark(places, marks, place);
+    mark(places, marks, place, near);
 }
 
 fn push_if<T: Copy + Drop>(items: &mut Vec<T>, marked: bool, item: T) -> Result<(), AllocError>
@@ -70,31 +70,4 @@ pub(crate) fn chosen<T: Copy + Drop>(
         push_if(&mut found, marks[at], *item)?;
     }
     Ok(found)
-}
-
-/// The number of each marked element among the marked ones.
-pub(crate) fn numbered(alloc: Global, marks: &[bool]) -> Result<Vec<Option<u32>>, AllocError>
-    requires { length marks.now < 2 ^ 30 }
-    ensures { IfOk result (λ numbers. numbers.items ≡ the_numbered 0 marks.now) }
-{
-    let mut numbers = Vec::new(alloc);
-    let mut next: u32 = 0;
-    for mark in marks {
-        numbers.push(if_marked(*mark, next))?;
-        next = after(*mark, next);
-    }
-    Ok(numbers)
-}
-
-fn if_marked(marked: bool, number: u32) -> Option<u32>
-    ensures { result ≡ (if marked then Some number else None) }
-{
-    if marked { Some(number) } else { None }
-}
-
-fn after(marked: bool, number: u32) -> u32
-    requires { number < 2 ^ 31 }
-    ensures { result ≡ (if marked then number + 1 else number) }
-{
-    if marked { number + 1 } else { number }
 }

@@ -1,5 +1,5 @@
-ghost use Rattle.std.specs.Prelude.{◌≡◌, ◌<◌, [], length, fold, nat_eq, slice_get, Some, OnOk, IfOk};
-ghost use Rattle.std.specs.List.{position, filter_map, cons_option};
+ghost use Rattle.std.specs.Prelude.{◌≡◌, ◌<◌, [], length, fold, OnOk, IfOk};
+ghost use Rattle.std.specs.List.{filter_map, cons_option};
 ghost use Rattle.faults.specs.First.{where_true};
 ghost use Rattle.faults.specs.Present.{each_below};
 ghost use Rattle.elf_objects.specs.Objects.{relocations_of};

@@ -78,9 +78,9 @@ impl Reader<'_, '_> {
         requires count { length marks.old ≡ length places.now }
         ensures { marks.new ≡ with_marks (map site_of places.now) marks.old (filter_map (link_at given) (map site_of places.now)) }
     {
-        for place in places {
+        for (at, place) in places.iter().enumerate() {
             let link = self.link(*place);
-            mark_any(places, marks, link);
+            mark_any(places, marks, link, at + 1);
         }
     }
 }
@@ -198,9 +198,10 @@ fn mark_place(places: &[Site], marks: &mut [bool], place: Place, addend: i64)
                     section,
                     offset: offset.wrapping_add_signed(addend),
                 },
+                0,
             )
         }
-        Place::Import(number) => mark(places, marks, Site::Stub { number, at: 0 }),
+        Place::Import(number) => mark(places, marks, Site::Stub { number, at: 0 }, places.len()),
         Place::Bytes { .. } | Place::Unloaded | Place::Number(_) | Place::Absent => {}
     }
 }

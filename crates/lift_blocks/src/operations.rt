@@ -1,6 +1,6 @@
 //! The operation at each place of code without faults.
 
-ghost use Rattle.std.specs.Prelude.{◌≡◌, ◌≤◌, ◌<◌, ◌+◌, ◌^◌, true, length, List, Some, IfSome, IsSomeAnd, slice_get};
+ghost use Rattle.std.specs.Prelude.{◌≡◌, ◌<◌, ◌+◌, ◌^◌, true, length, List, Some, IfSome, IsSomeAnd, slice_get};
 ghost use Rattle.std.specs.Option.{option_map};
 ghost use Rattle.symbols.specs.Wanted.{Given};
 ghost use Rattle.relocs.specs.Places.{CodePlace, Code, Stub, Nowhere};

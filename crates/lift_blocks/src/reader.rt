@@ -1,26 +1,23 @@
 //! What stands at offsets of code, and the places of code in code order. It needs no address map, which is made from it.
 
 ghost use Rattle.std.specs.Prelude.{◌≡◌, ◌<◌, ◌≤◌, ◌+◌, ◌^◌, ◌++◌, ◌∷◌, [], not, length, map, Some, OnOk, if◌then◌else◌};
-ghost use Rattle.std.specs.List.{filter};
 ghost use Rattle.std.specs.Option.{option_map};
-ghost use Rattle.faults.specs.Present.{each_below};
-ghost use Rattle.symbols.specs.Parts.{object_at};
 ghost use Rattle.symbols.specs.Laws.{HasSection};
 ghost use Rattle.symbols.specs.Wanted.{Given};
-ghost use Rattle.relocs.specs.Places.{Code, code_at, section_offsets};
+ghost use Rattle.relocs.specs.Places.{Code, code_at};
 ghost use Rattle.relocs.specs.Kinds.{is_call as is_the_call, kind_of as the_kind};
-ghost use Rattle.relocs.specs.Sites.{IsCodeSection};
+ghost use Rattle.relocs.specs.Sites.{IsCodeSection, HasSize};
 ghost use Rattle.relocs.specs.Words.{raw_at};
 ghost use Rattle.relocs.specs.Pairs.{relocations_at, is_none_of, has_call as the_has_call, can_call as may_call, is_pair_at as is_the_pair, is_second as is_the_second, next_place as the_next_place};
 ghost use Rattle.relocs.specs.AddressMap.{link_of, link_at, if_links, last_word as the_last_word};
 ghost use Rattle.relocs.specs.ByOffset.{AreTables};
 ghost use Rattle.lift_blocks.specs.Kept.{site_of};
 ghost use Rattle.lift_blocks.specs.Known.{IsKnown};
-ghost use Rattle.lift_blocks.specs.CodeList.{is_first, section_places, object_places, code_places_of};
+ghost use Rattle.lift_blocks.specs.CodeList.{section_places, object_places, code_places_of, may_link as may_it_link};
 
 use crate::site::Site;
 use elf_objects::{Objects, Relocation, SectionKind};
-use relocs::{Kind, Tables, joins, kind_of, op_in};
+use relocs::{Kind, Tables, holds_auipc, joins, kind_of};
 use rv_decode::{Reg, RvOp};
 use std::alloc::AllocError;
 
@@ -39,7 +36,17 @@ impl Reader<'_, '_> {
         requires section { IsCodeSection given object section }
         ensures { result ≡ raw_at given (Code object section offset) }
     {
-        op_in(self.objects.object(object).section(section).content, offset)
+        self.tables.op(self.objects, object, section, offset)
+    }
+
+    /// The number of bytes of a code section.
+    pub(crate) fn size(&self, object: u32, section: u32) -> usize
+        ghost given: { Given }
+        requires tables { AreTables given self.now.objects.now self.now.tables.now }
+        requires section { IsCodeSection given object section }
+        ensures { HasSize (code_at given object section) result }
+    {
+        self.tables.size(self.objects, object, section)
     }
 
     /// The relocations at an offset of a code section that change something, in table order.
@@ -60,10 +67,21 @@ impl Reader<'_, '_> {
         requires room { offset + 4 < 2 ^ 64 }
         ensures { result ≡ may_call given object section offset }
     {
-        joins(
-            self.op_at(object, section, offset),
-            self.op_at(object, section, offset + 4),
-        ) && is_none(self.relocations(object, section, offset + 4))
+        let first = self.op_at(object, section, offset);
+        holds_auipc(first) && self.is_joined(first, object, section, offset)
+    }
+
+    /// Whether a CALL may stand at an offset where an `auipc` is.
+    fn is_joined(&self, first: Option<RvOp>, object: u32, section: u32, offset: u64) -> bool
+        ghost given: { Given }
+        requires tables { AreTables given self.now.objects.now self.now.tables.now }
+        requires section { IsCodeSection given object section }
+        requires room { offset + 4 < 2 ^ 64 }
+        requires first { first ≡ raw_at given (Code object section offset) }
+        ensures { result ≡ may_call given object section offset }
+    {
+        joins(first, self.op_at(object, section, offset + 4))
+            && is_none(self.relocations(object, section, offset + 4))
     }
 
     /// Whether a pair begins at an offset.
@@ -122,11 +140,26 @@ impl Reader<'_, '_> {
                 object,
                 section,
                 offset,
-            } => link_after(
+            } => self.link_at(place, object, section, offset),
+            Site::Stub { .. } => None,
+        }
+    }
+
+    /// The same of an offset. Only `jal`, `jalr` and pairs, which begin with `auipc`, keep a place.
+    fn link_at(&self, place: Site, object: u32, section: u32, offset: u64) -> Option<Site>
+        ghost given: { Given }
+        requires tables { AreTables given self.now.objects.now self.now.tables.now }
+        requires place { site_of place ≡ Code object section offset }
+        requires known { IsKnown given (site_of place) }
+        ensures { option_map site_of result ≡ link_at given (site_of place) }
+    {
+        if may_link(self.op_at(object, section, offset)) {
+            link_after(
                 self.next_place(place),
                 self.last_word(object, section, offset),
-            ),
-            Site::Stub { .. } => None,
+            )
+        } else {
+            None
         }
     }
 
@@ -158,7 +191,7 @@ impl Reader<'_, '_> {
         requires section { IsCodeSection given object section }
         ensures { OnOk result (map site_of places.new.items ≡ map site_of places.old.items ++ section_places given object section) }
     {
-        let count = self.objects.object(object).section(section).content.len() / 4 + 1;
+        let count = self.size(object, section) / 4 + 1;
         for at in 0..count {
             let offset = 4 * at as u64;
             let second = self.is_second(object, section, offset);
@@ -235,6 +268,16 @@ fn width(pair: bool) -> u64
     ensures small { result ≤ 8 }
 {
     if pair { 8 } else { 4 }
+}
+
+/// Whether an operation, or a pair that begins with it, may keep a place in a register.
+fn may_link(op: Option<RvOp>) -> bool
+    ensures { result ≡ may_it_link op }
+{
+    matches!(
+        op,
+        Some(RvOp::Jal { .. } | RvOp::Jalr { .. } | RvOp::Auipc { .. })
+    )
 }
 
 /// The place after a `jal` or `jalr` that keeps it in a register.

@@ -1,20 +1,61 @@
 //! Where a place stands among all places.
 
-ghost use Rattle.std.specs.Prelude.{◌≡◌, map, nat_lt};
+ghost use Rattle.std.specs.Prelude.{◌≡◌, ◌≤◌, length, map, nat_lt, slice_get};
 ghost use Rattle.std.specs.List.{position};
+ghost use Rattle.std.specs.Option.{option_map};
 ghost use Rattle.relocs.specs.Places.{same_place};
 ghost use Rattle.lift_blocks.specs.Kept.{site_of};
-ghost use Rattle.lift_blocks.specs.Rank.{rank_of, code_rank as the_code_rank, Ascends};
+ghost use Rattle.lift_blocks.specs.Rank.{rank_of, code_rank as the_code_rank, Ascends, IsFirstFrom, is_that};
 
 use crate::site::Site;
 
-/// The index of a place among those in order.
-pub(crate) fn find(places: &[Site], place: Site) -> Option<usize>
+/// How far from where it may be a place is looked for at first, in places.
+const REACH: usize = 16;
+
+/// The index of a place among those in order, by an index that it is likely near.
+pub(crate) fn find(places: &[Site], place: Site, near: usize) -> Option<usize>
     requires { Ascends (map site_of places.now) }
     ensures { result ≡ position (same_place (site_of place)) (map site_of places.now) }
 {
-    let mut low = 0;
-    let mut high = places.len();
+    if is_at(places, place, near) {
+        return Some(near);
+    }
+    let from = near.min(places.len()).saturating_sub(REACH);
+    let around = first_from(
+        places,
+        place,
+        from,
+        from.saturating_add(2 * REACH).min(places.len()),
+    );
+    if is_at(places, place, around) {
+        return Some(around);
+    }
+    let first = first_from(places, place, 0, places.len());
+    if is_at(places, place, first) {
+        Some(first)
+    } else {
+        None
+    }
+}
+
+/// Whether a place stands at an index.
+fn is_at(places: &[Site], place: Site, at: usize) -> bool
+    ensures { result ≡ is_that (site_of place) (option_map site_of (slice_get places.now at)) }
+{
+    match places.get(at) {
+        Some(other) => is_same(place, *other),
+        None => false,
+    }
+}
+
+/// The first index from one up to another at which no place before this stands.
+fn first_from(places: &[Site], place: Site, from: usize, to: usize) -> usize
+    requires ascends { Ascends (map site_of places.now) }
+    requires within { to ≤ length places.now }
+    ensures { IsFirstFrom (map site_of places.now) (site_of place) from to result }
+{
+    let mut low = from;
+    let mut high = to;
     while low < high {
         let middle = low + (high - low) / 2;
         if is_before(places[middle], place) {
@@ -23,11 +64,7 @@ pub(crate) fn find(places: &[Site], place: Site) -> Option<usize>
             high = middle;
         }
     }
-    if low < places.len() && is_same(place, places[low]) {
-        Some(low)
-    } else {
-        None
-    }
+    low
 }
 
 /// Whether a place stands before another.

@@ -1,5 +1,4 @@
-ghost use Rattle.std.specs.Prelude.{◌≡◌, [], MatchResult};
-ghost use Rattle.symbols.specs.Faults.{symbol_faults};
+ghost use Rattle.std.specs.Prelude.{◌≡◌, MatchResult};
 ghost use Rattle.symbols.specs.Resolved.{IsResolved};
 ghost use Rattle.symbols.specs.Wanted.{Wanted as TheWanted, given_of};
 ghost use Rattle.layout.specs.Placed.{IsPlaced};

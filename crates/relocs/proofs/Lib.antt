@@ -1,6 +1,7 @@
 pub mod AllPlaces
 pub mod ByOffset
 pub mod CodeLimit
+pub mod CodeWords
 pub mod DataTables
 pub mod Examples
 pub mod FaultOrder

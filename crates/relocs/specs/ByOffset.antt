@@ -1,13 +1,19 @@
--- The relocations of a section by their offsets.
-use Rattle.std.specs.Prelude.{◌≡◌, ℕ, ◌<◌, ◌≤◌, List, length, Some, Bool, nat_eq, slice_get}
+-- The relocations of a section by their offsets, and the words of its code.
+use Rattle.std.specs.Prelude.{◌≡◌, ℕ, ◌<◌, ◌≤◌, ◌+◌, ◌*◌, ◌/◌, ◌%◌, List, length, Option, Some, None, IfSome, Bool, true, Result, nat_eq, slice_get, if◌then◌else◌}
 use Rattle.std.specs.List.{filter}
 use Rattle.std.specs.List.Sorted.{IsNonDecreasingBy}
 use Rattle.elf_objects.specs.declared.parts.Relocation.{Relocation}
+use Rattle.elf_objects.specs.declared.parts.SectionKind.TheVariants as kinds
 use Rattle.elf_objects.specs.Objects.{Object, relocations_of}
+use Rattle.rv_decode.specs.declared.ops.RvOp.{RvOp}
+use Rattle.rv_decode.specs.declared.ops.WordFault.{WordFault}
 use Rattle.symbols.specs.Faults.{has_effect}
-use Rattle.symbols.specs.Parts.{object_at}
+use Rattle.symbols.specs.Laws.{HasSection}
+use Rattle.symbols.specs.Parts.{object_at, kind_at}
 use Rattle.symbols.specs.Wanted.{Given}
 use Rattle.relocs.specs.Pairs.{stands_at}
+use Rattle.relocs.specs.Places.{code_if}
+use Rattle.relocs.specs.Words.{word_or_trap}
 
 abbrev pub changes_something : Relocation → Bool
 changes_something r = has_effect r.kind
@@ -38,22 +44,54 @@ pub record IsEffective (object : Object) (s : ℕ) (relocations : List Relocatio
   pub filtered : relocations ≡ filter changes_something (relocations_of object s)
   pub named : AreNamed object (relocations_of object s)
 
--- the row of a section of an object
-pub record IsRowOf (object : Object) (s : ℕ) (row : List Relocation) : Type 0 where
-  pub row_is : IsRow (relocations_of object s) row
+-- what is kept of a section: its relocations by offset, and of a code section the words and the size in bytes
+pub record Row : Type 0 where
+  pub relocations : List Relocation
+  pub words : List (Result RvOp WordFault)
+  pub size : ℕ
+
+-- the words of code, one at each multiple of four that is at most its size
+pub record HasWords (bytes : List ℕ) (words : List (Result RvOp WordFault)) : Type 0 where
+  pub count : length words ≡ length bytes / 4 + 1
+  pub each : (i : ℕ) (word : Result RvOp WordFault) → slice_get words i ≡ Some word → word ≡ word_or_trap bytes (4 * i)
+
+-- the word at an offset, as it is looked up among these
+abbrev pub kept_word : List (Result RvOp WordFault) → ℕ → Option (Result RvOp WordFault)
+kept_word words offset = if nat_eq (offset % 4) 0 then slice_get words (offset / 4) else None
+
+-- the bytes of a section of an object, where it is code
+abbrev pub code_of : Object → ℕ → Option (List ℕ)
+code_of object s = code_if true (slice_get object.sections s)
+
+-- the words of a section and its size, where it is code
+abbrev pub IsCodeOf : Object → ℕ → List (Result RvOp WordFault) → ℕ → Type 0
+IsCodeOf object s words size = IfSome (code_of object s) (λ bytes. HasWords bytes words × (size ≡ length bytes))
+
+-- a section of these objects is code
+abbrev pub IsCodeIn : List Object → ℕ → ℕ → Type 0
+IsCodeIn objects o s = HasSection objects o s × (kind_at objects o s ≡ kinds.Code)
+
+-- the relocations of a section of an object by offset
+pub record IsIndexOf (object : Object) (s : ℕ) (relocations : List Relocation) : Type 0 where
+  pub row_is : IsRow (relocations_of object s) relocations
   pub named : AreNamed object (relocations_of object s)
 
+-- what is kept of a section of an object
+pub record IsRowOf (object : Object) (s : ℕ) (row : Row) : Type 0 where
+  pub index : IsIndexOf object s row.relocations
+  pub code_is : IsCodeOf object s row.words row.size
+
 -- the rows of an object's sections
-pub record HasRows (object : Object) (rows : List (List Relocation)) : Type 0 where
+pub record HasRows (object : Object) (rows : List Row) : Type 0 where
   pub count : length rows ≡ length object.sections
-  pub each : (s : ℕ) (row : List Relocation) → slice_get rows s ≡ Some row → IsRowOf object s row
+  pub each : (s : ℕ) (row : Row) → slice_get rows s ≡ Some row → IsRowOf object s row
 
 -- and those of all objects
-pub record HasTables (objects : List Object) (tables : List (List (List Relocation))) : Type 0 where
+pub record HasTables (objects : List Object) (tables : List (List Row)) : Type 0 where
   pub count : length tables ≡ length objects
-  pub each : (o : ℕ) (rows : List (List Relocation)) → slice_get tables o ≡ Some rows → HasRows (object_at objects o) rows
+  pub each : (o : ℕ) (rows : List Row) → slice_get tables o ≡ Some rows → HasRows (object_at objects o) rows
 
 -- they are those of the objects that a link is given
-pub record AreTables (given : Given) (objects : List Object) (tables : List (List (List Relocation))) : Type 0 where
+pub record AreTables (given : Given) (objects : List Object) (tables : List (List Row)) : Type 0 where
   pub objects_are : objects ≡ given.objects
   pub tables_are : HasTables objects tables

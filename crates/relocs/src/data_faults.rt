@@ -3,14 +3,14 @@
 ghost use Rattle.std.specs.Prelude.{◌≡◌, ◌<◌, ◌^◌, ◌+◌, ◌-ℤ◌, pos, true, length, slice_get, Some, is_none, is_some, unsigned_abs};
 ghost use Rattle.elf_objects.specs.Objects.{relocations_of};
 ghost use Rattle.elf_objects.specs.Sound.{KeepsRelocation};
-ghost use Rattle.symbols.specs.Laws.{IsWithin, HasSection, is_data as the_data};
+ghost use Rattle.symbols.specs.Laws.{HasSection, is_data as the_data};
 ghost use Rattle.symbols.specs.Parts.{object_at, kind_at};
 ghost use Rattle.faults.specs.First.{first_below};
 ghost use Rattle.symbols.specs.Faults.{has_effect as the_effect};
 ghost use Rattle.symbols.specs.Resolution.{resolution};
 ghost use Rattle.symbols.specs.Wanted.{Given};
-ghost use Rattle.relocs.specs.Kinds.{names_address, is_data_kind as the_data_kind, may_change_data as may_change_the_data, kind_of as the_kind};
-ghost use Rattle.relocs.specs.Data.{data_value as the_data_value, given_by, is_in_range as is_in_the_range, data_fault as the_fault, fault_in_table, section_data_fault, object_data_fault, first_data_fault};
+ghost use Rattle.relocs.specs.Kinds.{names_address, is_data_kind as the_data_kind, may_change_data as may_change_the_data};
+ghost use Rattle.relocs.specs.Data.{data_value as the_data_value, is_in_range as is_in_the_range, data_fault as the_fault, fault_in_table, section_data_fault, object_data_fault, first_data_fault};
 ghost use Rattle.relocs.specs.Sources.{IsSourcesOf, IsRelocation};
 ghost use Rattle.relocs.specs.Places.{code_place};
 ghost use Rattle.relocs.specs.AddressMap.{number_in, needed_places};

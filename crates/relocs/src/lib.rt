@@ -7,6 +7,7 @@ ghost use Rattle.relocs.specs.Laws.{ImagesHaveLengths};
 mod bytes;
 mod code_faults;
 mod code_map;
+mod code_words;
 mod data_bytes;
 mod data_faults;
 mod fault;
@@ -38,7 +39,7 @@ use layout::aligned_is_least;
 pub use make_images::images;
 pub use means::meaning;
 pub use operand::Operand;
-pub use sites::{joins, op_in};
+pub use sites::{holds_auipc, joins};
 pub use sources::Sources;
 pub use tables::Tables;
 

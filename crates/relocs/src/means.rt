@@ -1,6 +1,6 @@
 //! What relocations of code mean.
 
-ghost use Rattle.std.specs.Prelude.{◌≡◌, ◌<◌, ◌&&◌, ◌||◌, [], pos, true, not, length, slice_get, unwrap_or, is_some, Some, None, IsSomeAnd, if◌then◌else◌};
+ghost use Rattle.std.specs.Prelude.{◌≡◌, ◌<◌, ◌&&◌, ◌||◌, [], pos, not, length, slice_get, unwrap_or, is_some, Some, None, IsSomeAnd, if◌then◌else◌};
 ghost use Rattle.faults.specs.First.{where_true};
 ghost use Rattle.elf_objects.specs.Objects.{relocations_of};
 ghost use Rattle.symbols.specs.Parts.{object_at};

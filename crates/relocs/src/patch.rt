@@ -1,8 +1,8 @@
 //! The bytes of data that one relocation changes.
 
-ghost use Rattle.std.specs.Prelude.{◌≡◌, ◌+◌, ◌*◌, ◌<◌, ◌≤◌, ◌^◌, length, true, unsigned_abs};
+ghost use Rattle.std.specs.Prelude.{◌≡◌, ◌+◌, ◌*◌, ◌<◌, ◌≤◌, ◌^◌, length, unsigned_abs};
 ghost use Rattle.numbers.specs.Bytes.{little, number_of};
-ghost use Rattle.relocs.specs.Kinds.{is_data_kind, data_width as the_width};
+ghost use Rattle.relocs.specs.Kinds.{data_width as the_width};
 ghost use Rattle.relocs.specs.Values.{bits_of};
 ghost use Rattle.relocs.specs.Data.{changed, put_bytes, patched_by};
 

@@ -5,7 +5,7 @@ ghost use Rattle.std.specs.List.{filter_map};
 ghost use Rattle.faults.specs.First.{where_true};
 ghost use Rattle.symbols.specs.Parts.{object_at};
 ghost use Rattle.symbols.specs.Wanted.{Given};
-ghost use Rattle.relocs.specs.Operands.{plain_fault as the_plain_fault, auipc_fault as the_auipc_fault, label_of as the_label_of, offset_in as the_offset_in, high_of as the_high_of, label_fault as the_label_fault, relocation_fault as the_relocation_fault, holds_auipc as holds_the_auipc, lesser as the_lesser, least};
+ghost use Rattle.relocs.specs.Operands.{plain_fault as the_plain_fault, auipc_fault as the_auipc_fault, label_of as the_label_of, offset_in as the_offset_in, high_of as the_high_of, label_fault as the_label_fault, relocation_fault as the_relocation_fault, lesser as the_lesser, least};
 ghost use Rattle.relocs.specs.Pairs.{relocations_at, stands_at};
 ghost use Rattle.relocs.specs.Sites.{IsCodeSection, IsNamed};
 ghost use Rattle.relocs.specs.Sources.{IsSourcesOf};
@@ -13,9 +13,9 @@ ghost use Rattle.relocs.specs.Sources.{IsSourcesOf};
 use crate::fault::{MISSING_HIGH, WRONG_RELOCATION};
 use crate::found::Found;
 use crate::kinds::{Kind, kind_of};
+use crate::sites::holds_auipc;
 use crate::sources::Sources;
 use elf_objects::Relocation;
-use rv_decode::RvOp;
 use symbols::{Place, has_effect};
 
 impl Sources<'_, '_, '_> {
@@ -207,13 +207,6 @@ fn offset_in(object: u32, section: u32, place: Place) -> Option<u64>
         }
         _ => None,
     }
-}
-
-/// Whether an operation is an `auipc`.
-fn holds_auipc(op: Option<RvOp>) -> bool
-    ensures { result ≡ holds_the_auipc op }
-{
-    matches!(op, Some(RvOp::Auipc { .. }))
 }
 
 /// The fault of several relocations at one offset.

@@ -3,8 +3,7 @@
 ghost use Rattle.std.specs.Prelude.{◌≡◌, ◌<◌, ◌++◌, ◌∷◌, [], length, if◌then◌else◌, IfOk, OnOk};
 ghost use Rattle.std.specs.List.{filter};
 ghost use Rattle.std.specs.List.Sorted.{IsNonDecreasingBy};
-ghost use Rattle.elf_objects.specs.Objects.{relocations_of};
-ghost use Rattle.relocs.specs.ByOffset.{changes_something, is_at, offset_of, IsBound, IsEffective, IsRowOf};
+ghost use Rattle.relocs.specs.ByOffset.{changes_something, is_at, offset_of, IsBound, IsEffective, IsIndexOf};
 
 use elf_objects::{Object, Relocation};
 use std::alloc::{AllocError, Global};
@@ -17,7 +16,7 @@ pub(crate) fn row_of(
     section: u32,
 ) -> Result<Vec<Relocation>, AllocError>
     requires { section < length object.now.sections }
-    ensures { IfOk result (λ v. IsRowOf object.now section v.items) }
+    ensures { IfOk result (λ v. IsIndexOf object.now section v.items) }
 {
     let mut row = effective(alloc, object, section)?;
     row.sort_by_key(|relocation| relocation.offset)?;

@@ -1,6 +1,6 @@
 //! The bytes of the parts of data.
 
-ghost use Rattle.std.specs.Prelude.{◌≡◌, ◌<◌, ◌++◌, ◌+◌, ◌^◌, [], length, fold, take, IfOk, OnOk};
+ghost use Rattle.std.specs.Prelude.{◌≡◌, ◌<◌, ◌++◌, ◌+◌, length, fold, take, IfOk, OnOk};
 ghost use Rattle.elf_objects.specs.Objects.{relocations_of};
 ghost use Rattle.symbols.specs.Laws.{HasSection};
 ghost use Rattle.symbols.specs.Parts.{object_at};
@@ -8,7 +8,7 @@ ghost use Rattle.symbols.specs.Wanted.{Given};
 ghost use Rattle.layout.specs.Addresses.{end_of_objects, end_before};
 ghost use Rattle.layout.specs.Steps.{section_at};
 ghost use Rattle.relocs.specs.Data.{relocated_by};
-ghost use Rattle.relocs.specs.Images.{holds, start_of, with_section, with_sections, with_objects, sections_image, with_slots, slot_bytes, read_only_image};
+ghost use Rattle.relocs.specs.Images.{holds, start_of, with_section, with_sections, sections_image, with_slots, slot_bytes, read_only_image};
 ghost use Rattle.std.specs.List.{flat_map};
 ghost use Rattle.machine_state.specs.Start.{read_only_start};
 ghost use Rattle.layout.specs.Sections.{is_read_only};

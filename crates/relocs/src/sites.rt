@@ -1,10 +1,11 @@
 //! What is at offsets of code: operations, relocations, pairs and places.
 
-ghost use Rattle.std.specs.Prelude.{◌≡◌, ◌<◌, ◌≤◌, ◌+◌, length, Some, IsSome, IfSome};
+ghost use Rattle.std.specs.Prelude.{◌≡◌, ◌<◌, ◌+◌, Some, IsSome, IfSome};
 ghost use Rattle.std.specs.List.{filter};
 ghost use Rattle.symbols.specs.Parts.{object_at};
 ghost use Rattle.symbols.specs.Wanted.{Given};
 ghost use Rattle.relocs.specs.Near.{items_of, IsThere, BelongTo};
+ghost use Rattle.relocs.specs.Operands.{holds_auipc as holds_the_auipc};
 ghost use Rattle.relocs.specs.Pairs.{relocations_at, stands_at, can_call as may_call, is_pair_at as is_the_pair, is_second as is_the_second, is_place as is_the_place, joins as the_joins, same_register};
 ghost use Rattle.relocs.specs.Places.{Code, code_at};
 ghost use Rattle.relocs.specs.Sites.{IsCodeSection, HasSize, IsNamed, found_of};
@@ -12,13 +13,13 @@ ghost use Rattle.relocs.specs.CodeFaults.{word_fault as the_word_fault, code_of_
 ghost use Rattle.relocs.specs.Sources.{IsSourcesOf, AreRelocations};
 ghost use Rattle.relocs.specs.Words.{raw_at, word_of_place, word_in as the_word_in, is_offset_in, decoded, is_code_offset as is_the_offset};
 
+use crate::code_words::word_or_trap;
 use crate::fault::{BAD_REGISTER, BAD_WORD, ECALL, LOAD_TO_ZERO};
 use crate::found::Found;
 use crate::near::Relocations;
-use crate::patch::little_endian;
 use crate::sources::Sources;
 use elf_objects::Relocation;
-use rv_decode::{Reg, RvOp, WordFault, decode};
+use rv_decode::{Reg, RvOp, WordFault};
 
 impl Sources<'_, '_, '_> {
     /// The operation at an offset of a code section, before relocation.
@@ -28,7 +29,20 @@ impl Sources<'_, '_, '_> {
         requires section { IsCodeSection given object section }
         ensures { result ≡ raw_at given (Code object section offset) }
     {
-        op_in(self.objects.object(object).section(section).content, offset)
+        operation(self.word(object, section, offset))
+    }
+
+    /// What the word at an offset of a code section is, where the offset can be a place.
+    fn word(&self, object: u32, section: u32, offset: u64) -> Option<Result<RvOp, WordFault>>
+        ghost given: { Given }
+        requires sources { IsSourcesOf given self.now }
+        requires section { IsCodeSection given object section }
+        ensures { result ≡ word_of_place given (Code object section offset) }
+    {
+        match self.tables {
+            Some(tables) => tables.word(self.objects, object, section, offset),
+            None => word_in(self.objects.object(object).section(section).content, offset),
+        }
     }
 
     /// The code of the fault of the word at an offset of a code section, where the word is no operation.
@@ -38,7 +52,7 @@ impl Sources<'_, '_, '_> {
         requires section { IsCodeSection given object section }
         ensures { result ≡ the_word_fault (word_of_place given (Code object section offset)) }
     {
-        match word_in(self.objects.object(object).section(section).content, offset) {
+        match self.word(object, section, offset) {
             Some(Err(fault)) => Some(code_of_word(fault)),
             _ => None,
         }
@@ -85,14 +99,24 @@ impl Sources<'_, '_, '_> {
         requires section { IsCodeSection given object section }
         ensures { result ≡ may_call given object section offset }
     {
+        let first = self.op_at(object, section, offset);
+        holds_auipc(first) && self.is_joined(first, object, section, offset)
+    }
+
+    /// Whether a CALL may be at an offset where an `auipc` is.
+    fn is_joined(&self, first: Option<RvOp>, object: u32, section: u32, offset: u64) -> bool
+        ghost given: { Given }
+        requires sources { IsSourcesOf given self.now }
+        requires section { IsCodeSection given object section }
+        requires first { first ≡ raw_at given (Code object section offset) }
+        ensures { result ≡ may_call given object section offset }
+    {
         let size = self.code_size(object, section) as u64;
         if size < 4 || size - 4 < offset {
             return false;
         }
-        joins(
-            self.op_at(object, section, offset),
-            self.op_at(object, section, offset + 4),
-        ) && self.found_at(object, section, offset + 4).count == 0
+        joins(first, self.op_at(object, section, offset + 4))
+            && self.found_at(object, section, offset + 4).count == 0
     }
 
     /// The number of bytes of a code section.
@@ -102,7 +126,10 @@ impl Sources<'_, '_, '_> {
         requires section { IsCodeSection given object section }
         ensures { HasSize (code_at given object section) result }
     {
-        self.objects.object(object).section(section).content.len()
+        match self.tables {
+            Some(tables) => tables.size(self.objects, object, section),
+            None => self.objects.object(object).section(section).content.len(),
+        }
     }
 
     /// Whether a pair begins at an offset of a code section: a CALL's `auipc` and `jalr`, which are one operation.
@@ -133,10 +160,7 @@ impl Sources<'_, '_, '_> {
         requires section { IsCodeSection given object section }
         ensures { result ≡ is_offset_in (code_at given object section) offset }
     {
-        is_code_offset(
-            self.objects.object(object).section(section).content.len(),
-            offset,
-        )
+        is_code_offset(self.code_size(object, section), offset)
     }
 
     /// Whether an offset is a place.
@@ -171,33 +195,25 @@ impl<'l, 't, 'a> Sources<'l, 't, 'a> {
     }
 }
 
-/// The operation at an offset of bytes of code.
-pub fn op_in(bytes: &[u8], offset: u64) -> Option<RvOp>
-    ensures { result ≡ decoded (the_word_in (Some bytes.now) offset) }
+/// What the word at an offset of bytes of code is, where the offset can be a place.
+pub(crate) fn word_in(bytes: &[u8], offset: u64) -> Option<Result<RvOp, WordFault>>
+    ensures { result ≡ the_word_in (Some bytes.now) offset }
 {
-    match word_in(bytes, offset) {
-        Some(Ok(op)) => Some(op),
-        _ => None,
+    if is_code_offset(bytes.len(), offset) {
+        Some(word_or_trap(bytes, offset as usize))
+    } else {
+        None
     }
 }
 
-/// What the word at an offset of bytes of code is, where the offset can be a place: an operation, or faulty. A trap is after
-/// the last byte.
-#[tactic(auto, unfolding(crate::specs::Words::word_or_trap))]
-fn word_in(bytes: &[u8], offset: u64) -> Option<Result<RvOp, WordFault>>
-    ensures { result ≡ the_word_in (Some bytes.now) offset }
+/// The operation of a word, where it is none that is faulty.
+pub(crate) fn operation(word: Option<Result<RvOp, WordFault>>) -> Option<RvOp>
+    ensures { result ≡ decoded word }
 {
-    if !is_code_offset(bytes.len(), offset) {
-        return None;
+    match word {
+        Some(Ok(op)) => Some(op),
+        _ => None,
     }
-    let at = offset as usize;
-    if at == bytes.len() {
-        return Some(Ok(RvOp::Trap));
-    }
-    if bytes.len() - at < 4 {
-        return Some(Err(WordFault::BadWord));
-    }
-    Some(decode(little_endian(&bytes[at..at + 4]) as u32))
 }
 
 /// The code of the fault of a word.
@@ -217,6 +233,13 @@ fn is_code_offset(size: usize, offset: u64) -> bool
     ensures { result ≡ is_the_offset size offset }
 {
     offset % 4 == 0 && offset <= size as u64
+}
+
+/// Whether an operation is an `auipc`.
+pub fn holds_auipc(op: Option<RvOp>) -> bool
+    ensures { result ≡ holds_the_auipc op }
+{
+    matches!(op, Some(RvOp::Auipc { .. }))
 }
 
 /// Whether two operations are an `auipc`, and a `jalr` by its register.

@@ -1,6 +1,6 @@
 //! What the meaning of relocations depends on.
 
-ghost use Rattle.std.specs.Prelude.{◌≡◌, ◌<◌, ◌≤◌, ◌^◌, length, unsigned_abs, IfSome};
+ghost use Rattle.std.specs.Prelude.{◌≡◌, ◌<◌, ◌^◌, length, unsigned_abs, IfSome};
 ghost use Rattle.symbols.specs.Laws.{IsWithin, HasSection};
 ghost use Rattle.symbols.specs.Parts.{object_at};
 ghost use Rattle.symbols.specs.Resolution.{resolution};

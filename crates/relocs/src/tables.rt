@@ -1,4 +1,5 @@
-//! The relocations of all sections by their offsets, so that those at an offset are found without a scan of the table.
+//! The relocations of all sections by their offsets, so that those at an offset are found without a scan of the table, and
+//! the words of code, so that each is decoded once.
 
 ghost use Rattle.std.specs.Prelude.{◌≡◌, ◌<◌, length, slice_get, Some, IfOk};
 ghost use Rattle.std.specs.List.{filter};
@@ -7,26 +8,32 @@ ghost use Rattle.elf_objects.specs.Objects.{relocations_of};
 ghost use Rattle.symbols.specs.Laws.{HasSection};
 ghost use Rattle.symbols.specs.Parts.{object_at};
 ghost use Rattle.relocs.specs.Pairs.{stands_at};
-ghost use Rattle.relocs.specs.ByOffset.{is_at, offset_of, AreNamed, IsRowOf, HasRows, HasTables};
+ghost use Rattle.relocs.specs.ByOffset.{is_at, offset_of, AreNamed, IsRowOf, IsCodeOf, IsCodeIn, HasRows, HasTables, code_of, kept_word};
+ghost use Rattle.relocs.specs.Sites.{HasSize};
+ghost use Rattle.relocs.specs.Words.{word_in, decoded};
 
+use crate::code_words::code_words;
 use crate::rows::{at_offset, row_of};
-use elf_objects::{Object, Objects, Relocation};
+use crate::sites::operation;
+use elf_objects::{Object, Objects, Relocation, SectionKind};
+use rv_decode::{RvOp, WordFault};
 use std::alloc::{AllocError, Global};
 use std::marker::Model;
 
-/// The relocations of a section by offset.
+/// The relocations of a section by offset, and of a code section the words and the size in bytes.
 #[derive(Drop)]
 pub(crate) struct Row {
     relocations: Vec<Relocation>,
+    words: Vec<Result<RvOp, WordFault>>,
+    size: usize,
 }
 
 impl Model for Row {
-    ghost use Rattle.std.specs.Prelude.{List};
-    ghost use Rattle.elf_objects.specs.declared.parts.Relocation.{Relocation as TheRelocation};
+    ghost use Rattle.relocs.specs.ByOffset.{Row as TheRow};
 
-    ghost Value = { List TheRelocation };
+    ghost Value = { TheRow };
 
-    ghost view = { λ r. r.relocations.items };
+    ghost view = { λ r. record { relocations = r.relocations.items; words = r.words.items; size = r.size } };
 }
 
 impl Row {
@@ -34,16 +41,53 @@ impl Row {
         requires { section < length object.now.sections }
         ensures { IfOk result (IsRowOf object.now section) }
     {
+        let (words, size) = code(alloc, object, section)?;
         Ok(Row {
             relocations: row_of(alloc, object, section)?,
+            words,
+            size,
         })
     }
 
     fn at(&self, offset: u64) -> &[Relocation]
-        requires { IsNonDecreasingBy offset_of self.now }
-        ensures { result.now ≡ filter (is_at offset) self.now }
+        requires { IsNonDecreasingBy offset_of self.now.relocations }
+        ensures { result.now ≡ filter (is_at offset) self.now.relocations }
     {
         at_offset(&self.relocations, offset)
+    }
+
+    fn word(&self, offset: u64) -> Option<Result<RvOp, WordFault>>
+        ensures { result ≡ kept_word self.now.words offset }
+    {
+        let at = (offset / 4) as usize;
+        if offset % 4 == 0 && at < self.words.len() {
+            Some(self.words[at])
+        } else {
+            None
+        }
+    }
+
+    fn size(&self) -> usize
+        ensures { result ≡ self.now.size }
+    {
+        self.size
+    }
+}
+
+/// The words of a section and its size in bytes, where it is code.
+fn code(
+    alloc: Global,
+    object: &Object<'_>,
+    section: u32,
+) -> Result<(Vec<Result<RvOp, WordFault>>, usize), AllocError>
+    requires { section < length object.now.sections }
+    ensures { IfOk result (λ found. IsCodeOf object.now section found.0.items found.1) }
+{
+    let part = object.section(section);
+    match part.kind {
+        SectionKind::Code => Ok((code_words(alloc, part.content)?, part.content.len())),
+        SectionKind::ReadOnly | SectionKind::Writable | SectionKind::Zero | SectionKind::Unloaded =>
+            Ok((Vec::new(alloc), 0)),
     }
 }
 
@@ -55,9 +99,9 @@ pub(crate) struct Rows {
 
 impl Model for Rows {
     ghost use Rattle.std.specs.Prelude.{List};
-    ghost use Rattle.elf_objects.specs.declared.parts.Relocation.{Relocation as TheRelocation};
+    ghost use Rattle.relocs.specs.ByOffset.{Row as TheRow};
 
-    ghost Value = { List (List TheRelocation) };
+    ghost Value = { List TheRow };
 
     ghost view = { λ r. r.rows.items };
 }
@@ -81,7 +125,7 @@ impl Rows {
     }
 }
 
-/// The relocations of all sections of a link by offset: an index of those at an offset.
+/// The relocations of all sections of a link by offset: an index of those at an offset. And the words of its code.
 #[derive(Drop)]
 pub struct Tables {
     tables: Vec<Rows>,
@@ -89,9 +133,9 @@ pub struct Tables {
 
 impl Model for Tables {
     ghost use Rattle.std.specs.Prelude.{List};
-    ghost use Rattle.elf_objects.specs.declared.parts.Relocation.{Relocation as TheRelocation};
+    ghost use Rattle.relocs.specs.ByOffset.{Row as TheRow};
 
-    ghost Value = { List (List (List TheRelocation)) };
+    ghost Value = { List (List TheRow) };
 
     ghost view = { λ t. t.tables.items };
 }
@@ -116,6 +160,39 @@ impl Tables {
         ensures named { AreNamed (object_at objects.now object) result.now }
     {
         self.rows(object).row(section).at(offset)
+    }
+
+    /// What the word at an offset of a code section is, where the offset can be a place.
+    pub(crate) fn word(
+        &self,
+        objects: &Objects<'_>,
+        object: u32,
+        section: u32,
+        offset: u64,
+    ) -> Option<Result<RvOp, WordFault>>
+        requires tables { HasTables objects.now self.now }
+        requires code { IsCodeIn objects.now object section }
+        ensures { result ≡ word_in (code_of (object_at objects.now object) section) offset }
+    {
+        self.rows(object).row(section).word(offset)
+    }
+
+    /// The operation at an offset of a code section, before relocation.
+    pub fn op(&self, objects: &Objects<'_>, object: u32, section: u32, offset: u64) -> Option<RvOp>
+        requires tables { HasTables objects.now self.now }
+        requires code { IsCodeIn objects.now object section }
+        ensures { result ≡ decoded (word_in (code_of (object_at objects.now object) section) offset) }
+    {
+        operation(self.word(objects, object, section, offset))
+    }
+
+    /// The number of bytes of a code section.
+    pub fn size(&self, objects: &Objects<'_>, object: u32, section: u32) -> usize
+        requires tables { HasTables objects.now self.now }
+        requires code { IsCodeIn objects.now object section }
+        ensures { HasSize (code_of (object_at objects.now object) section) result }
+    {
+        self.rows(object).row(section).size()
     }
 
     fn rows(&self, object: u32) -> &Rows

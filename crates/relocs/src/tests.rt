@@ -3,6 +3,7 @@ ghost use Rattle.symbols.specs.declared.place.Place.TheVariants as names;
 
 use super::*;
 use crate::patch::patch;
+use crate::sites::{operation, word_in};
 use elf_objects::{Object, Objects};
 use rv_decode::{Reg, RvOp};
 use std::alloc::{AllocError, Global};
@@ -56,18 +57,18 @@ fn types_have_kinds(rt: HostRuntime) {
 #[test]
 fn words_are_decoded(rt: HostRuntime) {
     let bytes = [0x97, 0, 0, 0, 0xe7, 0x80, 0, 0];
-    let first = op_in(&bytes, 0);
-    let second = op_in(&bytes, 4);
+    let first = word_in(&bytes, 0);
+    let second = word_in(&bytes, 4);
     let auipc = RvOp::Auipc {
         rd: Reg::R(0),
         value: 0,
     };
-    assert_eq!(rt; first, Some(auipc));
-    assert!(rt; joins(first, second));
-    assert!(rt; !joins(second, first));
-    assert_eq!(rt; op_in(&bytes, 8), Some(RvOp::Trap));
-    assert_eq!(rt; op_in(&bytes, 2), None);
-    assert_eq!(rt; op_in(&bytes, 12), None);
+    assert_eq!(rt; first, Some(Ok(auipc)));
+    assert!(rt; joins(operation(first), operation(second)));
+    assert!(rt; !joins(operation(second), operation(first)));
+    assert_eq!(rt; word_in(&bytes, 8), Some(Ok(RvOp::Trap)));
+    assert_eq!(rt; word_in(&bytes, 2), None);
+    assert_eq!(rt; word_in(&bytes, 12), None);
 }
 
 /// ADD32 of the number 2 and SUB32 of the address 0x10000, in a word of 0.

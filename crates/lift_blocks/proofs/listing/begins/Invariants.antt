@@ -1,6 +1,7 @@
-use Rattle.std.proofs.Common.{◌≡◌, ◌++◌, true, drop}
-use Rattle.lift_blocks.specs.Listing.{begins_from, placed_operations}
+use Rattle.std.proofs.Common.{◌≡◌, ◌++◌, true, drop, map}
+use Rattle.lift_blocks.specs.Kept.{operation_of}
+use Rattle.lift_blocks.specs.Listing.{begins_from}
 use Rattle.lift_blocks.proofs.listing.begins.Given as goal
 
 abbrev pub invariant-loop-at : goal.invariant-loop-at
-invariant-loop-at l = l.begins.items ++ begins_from l.ended (drop l.at l.aimed) (placed_operations (drop l.at l.ops)) ≡ begins_from true l.aimed (placed_operations l.ops)
+invariant-loop-at l = l.begins.items ++ begins_from l.ended (drop l.at l.aimed) (map operation_of (drop l.at l.ops)) ≡ begins_from true l.aimed (map operation_of l.ops)

@@ -5,3 +5,6 @@ ghost-aimed_marks g a = g.given
 
 abbrev pub ghost-emitted_marks : goal.ghost-emitted_marks
 ghost-emitted_marks g a = g.given
+
+abbrev pub ghost-lifted : goal.ghost-lifted
+ghost-lifted g a = g.given

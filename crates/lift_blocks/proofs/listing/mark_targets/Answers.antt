@@ -16,4 +16,4 @@ loop-at-preserved c =
     fold_some (with_mark places) c.args.marks.now target_of (placed_operations c.args.ops.now) c.loop-at.at _ c.loop-at.marks c.mark_any.new.marks
     (slice_get-map placed_operation_of c.args.ops.now c.loop-at.at ∙ ap (option_map placed_operation_of) (slice_get-get_or c.args.ops.now c.loop-at.at _ (omega arith)))
     c.loop-at.invariant
-    (c.mark_any.ensures ∙ ap (λ o. with_marks places c.loop-at.marks (cons_option o [])) c.target_of.ensures)
+    (c.mark_any.ensures ∙ ap (λ o. with_marks places c.loop-at.marks (cons_option o [])) c.target_of-target.ensures)

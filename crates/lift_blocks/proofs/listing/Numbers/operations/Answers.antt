@@ -1,15 +1,22 @@
-use Rattle.std.proofs.Common.{map, arith, ◌∙◌, ap}
-use Rattle.std.specs.Option.{option_map}
-use Rattle.std.proofs.lemmas.Option.{slice_get-get_or, slice_get-map}
-use Rattle.lift_blocks.specs.Kept.{site_of}
-use Rattle.lift_blocks.specs.Listing.{placed_operations}
-use Rattle.lift_blocks.specs.Marks.{chosen}
-use Rattle.lift_blocks.specs.PlacedOps.{placed_operation_of}
-use Rattle.lift_blocks.proofs.ListedOps.{operations_more}
+use Rattle.std.proofs.Common.{◌<◌, ◌∙◌, ap, false, length, map, get_or, arith, Some}
+use Rattle.std.proofs.lemmas.Option.{slice_get-get_or}
+use Rattle.lift_blocks.specs.declared.placed_op.PlacedOp.TheVariants.{Sbrk}
+use Rattle.lift_blocks.specs.Kept.{site_of, operation_of}
+use Rattle.lift_blocks.proofs.ListedOps.{numbered_next, numbered_skip}
 use Rattle.lift_blocks.proofs.listing.Numbers.operations.Goals as goal
+use Rattle.lift_blocks.proofs.listing.Numbers.operations.Goals.{then-emitted-at+in_ok-op+in_ok-push, else-emitted-at}
 
 pub loop-at-preserved : goal.loop-at-preserved
 loop-at-preserved c =
-    operations_more (chosen c.args.self.now.emitted.now (map site_of c.args.self.now.places.now)) (placed_operations c.args.ops.now) c.loop-at.found.items c.push.new.self.items c.loop-at.at _ c.in_ok-operation.field-0
-    (slice_get-map placed_operation_of c.args.ops.now c.loop-at.at ∙ ap (option_map placed_operation_of) (slice_get-get_or c.args.ops.now c.loop-at.at _ (omega arith)))
-    c.loop-at.invariant c.in_ok-operation.ensures c.in_ok-push.ensures.items
+    let places = map site_of c.args.self.now.places.now in
+    let emitted = c.args.emitted.now in
+    let ops = c.args.ops.now in
+    let at = c.loop-at.at in
+    let within : at < length emitted = omega (arith, c.requires.count, c.loop-at-test.true) in
+    elim c.if-emitted-at.branch [
+      | then-emitted-at+in_ok-op+in_ok-push w ↦
+          numbered_next places emitted ops at _ c.loop-at.found.items c.if-emitted-at.found.items _ (slice_get-get_or emitted at false within ∙ ap Some w.if-emitted-at.true) (slice_get-get_or ops at _ c.loop-at-test.true) c.loop-at.invariant w.in_ok-op.ensures
+          (ap (λ v. v.items) w.found-is ∙ w.in_ok-push.ensures.items)
+      | else-emitted-at w ↦
+          numbered_skip places emitted ops at (get_or ops at Sbrk) (map operation_of c.if-emitted-at.found.items) (slice_get-get_or emitted at false within ∙ ap Some w.if-emitted-at.false) (slice_get-get_or ops at Sbrk c.loop-at-test.true) (search (c.loop-at.invariant, w.found-is))
+    ]

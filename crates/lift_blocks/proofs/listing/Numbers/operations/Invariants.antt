@@ -5,4 +5,4 @@ use Rattle.lift_blocks.specs.Marks.{chosen}
 use Rattle.lift_blocks.proofs.listing.Numbers.operations.Given as goal
 
 abbrev pub invariant-loop-at : goal.invariant-loop-at
-invariant-loop-at l = AreNumbered (chosen l.self.emitted.now (map site_of l.self.places.now)) (take l.at (placed_operations l.ops)) (map operation_of l.found.items)
+invariant-loop-at l = AreNumbered (map site_of l.self.places.now) (placed_operations (chosen (take l.at l.emitted) (take l.at l.ops))) (map operation_of l.found.items)

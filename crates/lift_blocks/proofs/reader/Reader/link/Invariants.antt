@@ -1,7 +1,4 @@
 use Rattle.lift_blocks.proofs.reader.Reader.link.Given as goal
 
-abbrev pub ghost-next_place : goal.ghost-next_place
-ghost-next_place g a = g.given
-
-abbrev pub ghost-last_word : goal.ghost-last_word
-ghost-last_word g a = g.given
+abbrev pub ghost-link_at : goal.ghost-link_at
+ghost-link_at g a = g.given

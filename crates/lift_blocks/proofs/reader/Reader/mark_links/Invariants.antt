@@ -8,5 +8,5 @@ use Rattle.lift_blocks.proofs.reader.Reader.mark_links.Given as goal
 abbrev pub ghost-link : goal.ghost-link
 ghost-link g a = g.given
 
-abbrev pub invariant-loop-place : goal.invariant-loop-place
-invariant-loop-place g l = l.marks ≡ with_marks (map site_of l.places) l.initial.marks (filter_map (link_at g.given) (take l.place-index (map site_of l.places)))
+abbrev pub invariant-loop-at : goal.invariant-loop-at
+invariant-loop-at g l = l.marks ≡ with_marks (map site_of l.places) l.initial.marks (filter_map (link_at g.given) (take l.at (map site_of l.places)))
