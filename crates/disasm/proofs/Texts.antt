@@ -3,28 +3,26 @@ use Rattle.std.proofs.Common.{◌≡◌, ℕ, zero, suc, ◌+◌, ◌-◌, ◌<�
 use Rattle.std.proofs.Math.Nat.{eq-or-lt_of_le}
 use Rattle.std.proofs.lemmas.List.{take_more}
 use Rattle.std.proofs.lemmas.Grind.{flat_map-append}
+use Rattle.faults.specs.Present.{each_below}
 use Rattle.disasm.specs.Digits.{byte_digits, hex}
 use Rattle.pvm_ops.specs.Listing.{Listing, is_marked}
 use Rattle.pvm_ops.proofs.Skipping.{run_before-is}
-use Rattle.disasm.specs.Disassembly.{end_of, texts_below}
+use Rattle.disasm.specs.Disassembly.{end_of}
 
-pub texts_below-zero : (text : ℕ → List ℕ) → texts_below 0 text ≡ []
-unfolding texts_below
-texts_below-zero text = refl
-
-pub texts_below-more : (text : ℕ → List ℕ) (n : ℕ) → texts_below (n + 1) text ≡ texts_below n text ++ text n
-unfolding texts_below
-texts_below-more text n = rw (add-one n) refl
+-- a text more
+pub each_below-next : (text : ℕ → List ℕ) (n : ℕ) → each_below (n + 1) text ≡ each_below n text ++ text n
+unfolding each_below
+each_below-next text n = rw (add-one n) refl
 
 -- the texts below a number are behind those below a lesser one
-pub texts_below-rest : (text : ℕ → List ℕ) (n m : ℕ) → m ≤ n → (rest : List ℕ) × (texts_below n text ≡ texts_below m text ++ rest)
-texts_below-rest text zero m le = let none : m ≡ 0 = omega arith in ([], rw none (sym (append-nil (texts_below 0 text))))
-texts_below-rest text (suc n) m le = elim (eq-or-lt_of_le le) [
-  | inl same ↦ ([], rw same (sym (append-nil (texts_below (suc n) text))))
+pub each_below-rest : (text : ℕ → List ℕ) (n m : ℕ) → m ≤ n → (rest : List ℕ) × (each_below n text ≡ each_below m text ++ rest)
+each_below-rest text zero m le = let none : m ≡ 0 = omega arith in ([], rw none (sym (append-nil (each_below 0 text))))
+each_below-rest text (suc n) m le = elim (eq-or-lt_of_le le) [
+  | inl same ↦ ([], rw same (sym (append-nil (each_below (suc n) text))))
   | inr less ↦
-      (let before = texts_below-rest text n m (omega arith) in (
+      (let before = each_below-rest text n m (omega arith) in (
         before.0 ++ text n,
-        ap (λ k. texts_below k text) (sym (add-one n)) ∙ texts_below-more text n ∙ ap (λ t. t ++ text n) before.1 ∙ append_assoc (texts_below m text) before.0 (text n),
+        ap (λ k. each_below k text) (sym (add-one n)) ∙ each_below-next text n ∙ ap (λ t. t ++ text n) before.1 ∙ append_assoc (each_below m text) before.0 (text n),
       ))
 ]
 

@@ -1,7 +1,8 @@
 -- The text of a program: a line on its sizes, a line for each instruction, and a line for each entry of its jump table.
-use Rattle.std.specs.Prelude.{ℕ, zero, suc, ◌+◌, ◌-◌, List, [], ◌++◌, length, slice_index, if◌then◌else◌, codes, decimal}
+use Rattle.std.specs.Prelude.{ℕ, ◌+◌, ◌-◌, List, [], ◌++◌, length, slice_index, if◌then◌else◌, codes, decimal}
 use Rattle.std.specs.Fmt.{signed_decimal}
 use Rattle.std.specs.List.{slice_range}
+use Rattle.faults.specs.Present.{each_below}
 use Rattle.numbers.specs.Words.{sum_64}
 use Rattle.arithmetic.specs.Words.{signed}
 use Rattle.pvm_ops.specs.Listing.{Listing, is_marked, run_before}
@@ -56,11 +57,6 @@ unfoldable pub line : Listing → ℕ → List ℕ
 line code at =
     hex_digits 8 at ++ codes " " ++ hex (slice_range code.bytes at (end_of code at)) ++ (instruction code at ++ codes "\n")
 
--- the texts of the numbers below a number, one after another
-unfoldable pub texts_below : ℕ → (ℕ → List ℕ) → List ℕ
-texts_below zero text = []
-texts_below (suc n) text = texts_below n text ++ text n
-
 -- the line of a position, where it is marked
 abbrev pub line_at : Listing → ℕ → List ℕ
 line_at code at = if is_marked code at then line code at else []
@@ -80,4 +76,4 @@ size_line p =
 -- the whole text
 abbrev pub disassembly : Program → List ℕ
 disassembly p =
-    size_line p ++ texts_below (length p.code.bytes) (line_at p.code) ++ texts_below (length p.table) (entry_line p)
+    size_line p ++ each_below (length p.code.bytes) (line_at p.code) ++ each_below (length p.table) (entry_line p)

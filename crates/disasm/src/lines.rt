@@ -2,10 +2,11 @@ ghost use Rattle.std.specs.Prelude.{◌≡◌, ◌+◌, ◌≤◌, ◌<◌, ◌^
 ghost use Rattle.std.specs.Io.KnownBytes.{Appends};
 ghost use Rattle.std.specs.List.{slice_range};
 ghost use Rattle.arrayvec.specs.ArrayString.{array_string_len};
+ghost use Rattle.faults.specs.Present.{each_below};
 ghost use Rattle.outside.specs.Outside.{AppendsFront, HasCause};
 ghost use Rattle.pvm_ops.specs.Listing.{is_marked};
 ghost use Rattle.disasm.specs.Digits.{hex, hex_digits};
-ghost use Rattle.disasm.specs.Disassembly.{disassembly, end_of, entry_line, instruction, line, line_at, size_line, texts_below};
+ghost use Rattle.disasm.specs.Disassembly.{disassembly, end_of, entry_line, instruction, line, line_at, size_line};
 ghost use Rattle.disasm.specs.Putting.{Adds};
 
 use crate::text::{LINE_LEN, PIECE_LEN, Text, push_byte, push_hex, push_instruction, push_number};
@@ -54,8 +55,8 @@ fn push_sizes(program: &Program<'_>, text: &mut Text)
 
 /// Adds the lines of the marked positions.
 fn put_lines<S: Sink>(code: &Code<'_>, text: &mut Text, out: &mut S) -> Result<(), Failed>
-    ensures ok { OnOk result (Adds (S.bytes out.old) (S.bytes out.new) text.old.bytes text.new.bytes (texts_below (length code.now.bytes) (line_at code.now))) }
-    ensures err { OnErr result (AppendsFront (S.bytes out.old) (S.bytes out.new) (text.old.bytes ++ texts_below (length code.now.bytes) (line_at code.now))) }
+    ensures ok { OnOk result (Adds (S.bytes out.old) (S.bytes out.new) text.old.bytes text.new.bytes (each_below (length code.now.bytes) (line_at code.now))) }
+    ensures err { OnErr result (AppendsFront (S.bytes out.old) (S.bytes out.new) (text.old.bytes ++ each_below (length code.now.bytes) (line_at code.now))) }
     ensures cause { HasCause (S.faults out.old) (S.faults out.new) result }
 {
     for at in 0..code.len() {
@@ -154,8 +155,8 @@ fn put_bytes<S: Sink>(bytes: &[u8], text: &mut Text, out: &mut S) -> Result<(), 
 
 /// Adds the lines of the jump table.
 fn put_table<S: Sink>(program: &Program<'_>, text: &mut Text, out: &mut S) -> Result<(), Failed>
-    ensures ok { OnOk result (Adds (S.bytes out.old) (S.bytes out.new) text.old.bytes text.new.bytes (texts_below (length program.now.table) (entry_line program.now))) }
-    ensures err { OnErr result (AppendsFront (S.bytes out.old) (S.bytes out.new) (text.old.bytes ++ texts_below (length program.now.table) (entry_line program.now))) }
+    ensures ok { OnOk result (Adds (S.bytes out.old) (S.bytes out.new) text.old.bytes text.new.bytes (each_below (length program.now.table) (entry_line program.now))) }
+    ensures err { OnErr result (AppendsFront (S.bytes out.old) (S.bytes out.new) (text.old.bytes ++ each_below (length program.now.table) (entry_line program.now))) }
     ensures cause { HasCause (S.faults out.old) (S.faults out.new) result }
 {
     for entry in 0..program.table_len() {

@@ -1,8 +1,8 @@
 -- What a linked program is.
 use Rattle.std.specs.Prelude.{◌≡◌, ℕ, ◌≤◌, ◌^◌, List, length}
+use Rattle.machine_state.specs.Start.{Image}
 use Rattle.symbols.specs.Wanted.{Given}
-use Rattle.layout.specs.Addresses.{zero_pages}
-use Rattle.relocs.specs.Images.{Images, read_only_image, writable_image}
+use Rattle.relocs.specs.Images.{Images}
 use Rattle.relocs.specs.Places.{CodePlace}
 use Rattle.relocs.specs.AddressMap.{needed_places}
 use Rattle.lift_blocks.specs.Listed.{Lifted, IsLifted}
@@ -14,30 +14,31 @@ use Rattle.jump_table.specs.Assembling.{AssembledCode}
 use Rattle.blob_codec.specs.Grammar.{Program, Container, IsContainer, container_bytes}
 use Rattle.link_core.specs.Agrees.{Agrees}
 use Rattle.link_core.specs.MapText.{map_text}
+use Rattle.link_core.specs.Runs.{image_of}
 
 -- the program of a list of blocks, where the offsets have these lengths
 abbrev pub program_of : List ℕ → BlockList → Program
 program_of lengths list = record { table = table_of lengths list; width = width_of (table_of lengths list); code = code_of lengths list }
 
+-- the container of what a program starts with and of the program itself
+abbrev pub container_around : Image → Program → Container
+container_around image program = record {
+  read_only = image.read_only;
+  writable = image.writable;
+  zero_pages = image.zero_pages;
+  stack = image.stack;
+  program = program;
+}
+
 -- the container of the objects' data and of the operations in code order
 abbrev pub container_of : Given → List ℕ → Lifted → Container
-container_of given lengths lifted = record {
-  read_only = read_only_image given;
-  writable = writable_image given;
-  zero_pages = zero_pages given;
-  stack = given.wanted.stack;
-  program = program_of lengths (lowered_blocks lifted);
-}
+container_of given lengths lifted = container_around (image_of given) (program_of lengths (lowered_blocks lifted))
 
 -- the container of data and of code, as the code writes it
 abbrev pub container_with : Given → Images → AssembledCode → Container
-container_with given images assembled = record {
-  read_only = images.read_only;
-  writable = images.writable;
-  zero_pages = zero_pages given;
-  stack = given.wanted.stack;
-  program = record { table = assembled.table; width = assembled.width; code = assembled.code };
-}
+container_with given images assembled =
+    container_around (record (image_of given) { read_only = images.read_only; writable = images.writable })
+    (record { table = assembled.table; width = assembled.width; code = assembled.code })
 
 -- The container is that of the objects: their data at their addresses, and their operations in code order, cut into
 -- blocks, lowered and placed. So it is determined by what the link was given.

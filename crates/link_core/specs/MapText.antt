@@ -2,7 +2,7 @@
 use Rattle.std.specs.Prelude.{ℕ, ◌+◌, List, [], ◌∷◌, ◌++◌, length, map, codes, Bool, ◌&&◌, nat_lt, if◌then◌else◌, Option, Some, None, slice_get}
 use Rattle.std.specs.Fmt.{decimal}
 use Rattle.disasm.specs.Digits.{hex_digits}
-use Rattle.disasm.specs.Disassembly.{texts_below}
+use Rattle.faults.specs.Present.{each_below}
 use Rattle.elf_objects.specs.declared.parts.SectionKind.{SectionKind}
 use Rattle.elf_objects.specs.Objects.{Section}
 use Rattle.symbols.specs.Wanted.{Given, sections_in, kept_objects}
@@ -53,10 +53,10 @@ section_line is_of given o s (Some section) =
 abbrev pub object_lines : (SectionKind → Bool) → Given → ℕ → List ℕ
 object_lines is_of given o =
     let sections = sections_in given o in
-    texts_below (length sections) (λ s. section_line is_of given o s (slice_get sections s))
+    each_below (length sections) (λ s. section_line is_of given o s (slice_get sections s))
 
 abbrev pub lines_of : (SectionKind → Bool) → Given → List ℕ
-lines_of is_of given = texts_below (length (kept_objects given)) (object_lines is_of given)
+lines_of is_of given = each_below (length (kept_objects given)) (object_lines is_of given)
 
 -- the lines of all data, which stand in the order of their addresses
 abbrev pub data_lines : Given → List ℕ
