@@ -40,10 +40,10 @@ def judged(what, value, bar):
     return ok
 
 
-def seconds(words):
-    """The seconds of a run, and the run itself with what it wrote."""
+def seconds(words, most=None):
+    """The seconds of a run, which is ended after the most of them that are given, and the run itself with what it wrote."""
     begin = time.perf_counter()
-    done = subprocess.run(words, capture_output=True, stdin=subprocess.DEVNULL)
+    done = subprocess.run(words, capture_output=True, stdin=subprocess.DEVNULL, timeout=most)
     return time.perf_counter() - begin, done
 
 

@@ -3,62 +3,117 @@
 
     link.py [PROGRAM] [--rounds 5]
 
-PROGRAM is crates/polkatool/out/polkatool of this repository if left out. The objects have 2^16, 2^18 and 2^20 words and
-the form of examples/five/five.o. Of ten words nine are `addi a0,a0,1` and one is a branch to the first of them, and the
-last word is `ret`.
+PROGRAM is crates/polkatool/out/polkatool of this repository if left out. There are three kinds of objects, each with one
+section of code whose last word is `ret`:
 
-Time: the least of the rounds, less the least time of a link of one word, for each word. The sizes take turns, and
+  branches     2^16, 2^18 and 2^20 words in the form of examples/five/five.o. Of ten words nine are `addi a0,a0,1` and one
+               is a branch to the first of them.
+  relocations  groups of six words with three relocations: `lui` with R_RISCV_HI20 and `addi` with R_RISCV_LO12_I of a
+               symbol of data, three times `addi a0,a0,1`, and a branch with R_RISCV_BRANCH to the start of its group.
+               There are as many groups as an object of 2^24 bytes holds, almost 2^20 words and 2^19 relocations.
+  calls        as many groups, in which `auipc` with R_RISCV_CALL_PLT and `jalr` call a function in place of `lui` and
+               `addi`. So each group has a pair, and a place in the address map, where the call returns.
+
+Time: the least of the rounds, less the least time of a link of one word, for each word. The objects take turns, and
 short texts, whose time is near that of the start, are linked up to eight times a round.
 Memory: the peak resident size, less that of a run without words, which answers `bad command line`, for each byte of
 object and container together. Each answer is compared with what it has to be.
-Beside them, where it is installed: the time of LLVM's linker, `ld.lld-19 --no-relax`, on the same objects.
+Beside them, where it is installed: the time of LLVM's linker, `ld.lld-19 --no-relax`, on the same objects. Of the
+branches whole times are compared, and of the other objects each linker's time is less its own for one word.
 
 Times and ratios of one run mean something, as machines differ. The status is 0 where all last lines say ok, else 1. It
-runs on Linux alone.
+runs on Linux alone. The calls have no bar.
 """
+import collections
 import os
 import shutil
 import sys
 import tempfile
 
 sys.dont_write_bytecode = True
-from common import BAD_COMMAND_LINE, ROOT, asked, judged, peak, seconds
-
-sys.path.insert(0, os.path.join(ROOT, "examples", "five"))
-from make import object_of
+from common import BAD_COMMAND_LINE, asked, judged, peak, seconds
+from elf import (
+    ADDI, ADDI_A0, ALLOC_AND_EXECINSTR, ALLOC_AND_WRITE, AUIPC_RA, BNE_A0, BRANCH, CALL_PLT, GLOBAL_FUNCTION, HI20, JALR_RA,
+    LARGEST, LO12_I, LOCAL_OBJECT, LUI_A0, PROGBITS, RET, Sections, object_of, relocation, symbol, word_bytes,
+)
+from linked import (
+    ADD_IMM, ADD_IMM_8, ENTRY_JUMP, ENTRY_LINE, JUMP_IND, branch_ne_imm, code_line, data_line, jump_table, load_imm,
+    load_imm_jump, number_of,
+)
 
 SIZES = (2**16, 2**18, 2**20)
-TIME_BAR = 1.5  # time a word of the longest text over that of the shortest
-MEMORY_BAR = 40  # bytes of memory a byte of object and container
-SPEED_BAR = 4  # time of a link of the longest text over that of LLVM's linker
-ADDI, RET = 0x00150513, 0x00008067
+TIME_BAR = 1.5  # time a word of the longest text of branches over that of the shortest
+BRANCHES, RELOCATIONS, CALLS = "branches", "relocations", "calls"
+MEMORY_BARS = {BRANCHES: 40, RELOCATIONS: 48}  # bytes of memory a byte of object and container
+SPEED_BARS = {BRANCHES: 4, RELOCATIONS: 5}  # time of a link of the longest text over that of LLVM's linker
 BRANCH_BACK = 0xFC051EE3  # bne a0, x0, -36
-MAP = b"entry 0 00000005 main\n"
+GROUP = 24  # the bytes of a group of six words
+GROUPS = (LARGEST - 1024) // (GROUP + 3 * len(relocation(0, 0, 0)))
+DATA, MAIN, LEAF = 1, 2, 3  # the numbers of the symbols
+DATA_ADDRESS, DATA_SIZE, DATA_SECTION = 0x20000, 16, 3
+MAP_OF_DATA = ENTRY_LINE + data_line(DATA_ADDRESS, DATA_SIZE, DATA_SECTION)
+
+# what it is, how many words it has, the object, and the map and the bytes of jump table and code it is linked to
+Text = collections.namedtuple("Text", "what count object map code")
 
 
-def words_of(count):
-    """The words: each tenth a branch to the first of the ten, and the last one a return."""
-    return [BRANCH_BACK if at % 10 == 9 else ADDI for at in range(count - 1)] + [RET]
-
-
-def code_of(count):
-    """The code that stands in the container: the entry jump, and each word's instruction."""
-    add_imm = bytes.fromhex("957701")
-    branch_ne_imm = bytes.fromhex("5207") + (-9 * len(add_imm)).to_bytes(4, "little", signed=True)
+def branches(count):
+    """Words of which each tenth is a branch to the first of the ten, and the last one a return."""
+    text = [BRANCH_BACK if at % 10 == 9 else ADDI for at in range(count - 1)] + [RET]
     tens, rest = divmod(count - 1, 10)
-    return bytes.fromhex("2805000000") + (add_imm * 9 + branch_ne_imm) * tens + add_imm * rest + bytes.fromhex("3200")
+    code = ENTRY_JUMP + (ADD_IMM * 9 + branch_ne_imm(-9 * len(ADD_IMM))) * tens + ADD_IMM * rest + JUMP_IND
+    return Text(BRANCHES, count, object_of(text), ENTRY_LINE, code)
 
 
-def timed_link(program, source, target, count):
+def object_of_groups(first_two, relocations_at):
+    """An object of groups that begin with these two words, each with its relocations by its offset, those of its branch
+    left out. Behind the groups is a function of one word."""
+    text = [*first_two, ADDI, ADDI, ADDI, BNE_A0] * GROUPS + [RET]
+    offsets = range(0, GROUP * GROUPS, GROUP)
+    entries = b"".join(relocations_at(at) + relocation(at + GROUP - 4, BRANCH, MAIN, at) for at in offsets)
+    sections = Sections(4)
+    sections.add_relocated(".text", ALLOC_AND_EXECINSTR, word_bytes(text), entries)
+    sections.add(".data", PROGBITS, ALLOC_AND_WRITE, bytes(DATA_SIZE), align=8)
+    symbols = symbol(0, 0, 0, 0) + symbol(1, LOCAL_OBJECT, DATA_SECTION, 8) + symbol(6, GLOBAL_FUNCTION, 1, 0)
+    symbols += symbol(11, GLOBAL_FUNCTION, 1, GROUP * GROUPS)
+    return sections.ended(symbols, MAIN, b"\0data\0main\0leaf\0")
+
+
+def relocations():
+    """The text of groups that load an address of data."""
+    content = object_of_groups((LUI_A0, ADDI_A0), lambda at: relocation(at, HI20, DATA) + relocation(at + 4, LO12_I, DATA))
+    before = load_imm(DATA_ADDRESS) + ADD_IMM_8 + ADD_IMM * 3
+    code = ENTRY_JUMP + (before + branch_ne_imm(-len(before))) * GROUPS + JUMP_IND
+    return Text(RELOCATIONS, 6 * GROUPS + 1, content, MAP_OF_DATA, code)
+
+
+def calls():
+    """The text of groups that call the function behind them. The call of a group names the number of the place at which it
+    returns, and the map has a line for each of these."""
+    content = object_of_groups((AUIPC_RA, JALR_RA), lambda at: relocation(at, CALL_PLT, LEAF))
+    rest = len(ADD_IMM * 3 + branch_ne_imm(0))
+    leaf = len(ENTRY_JUMP) + sum(len(load_imm_jump(number_of(group), 0)) + rest for group in range(GROUPS))
+    code, returns = bytearray(ENTRY_JUMP), []
+    for group in range(GROUPS):
+        call = load_imm_jump(number_of(group), leaf - len(code))
+        code += call
+        returns.append(len(code))
+        code += ADD_IMM * 3 + branch_ne_imm(-len(call + ADD_IMM * 3))
+    lines = b"".join(code_line(group, position, 1, GROUP * group + 8) for group, position in enumerate(returns))
+    return Text(CALLS, 6 * GROUPS + 1, content, MAP_OF_DATA + lines, jump_table(returns) + code + JUMP_IND)
+
+
+def timed_link(program, source, target, text):
     """The seconds of one link, whose answer is looked at."""
     if os.path.exists(target):
         os.remove(target)
     took, done = seconds([program, "link", "-o", target, source])
-    if done.returncode != 0 or done.stdout != MAP or done.stderr:
-        sys.exit("a link of %d words ended with status %d: %r %r" % (count, done.returncode, done.stdout[:200], done.stderr[:200]))
+    what = "a link of %d words (%s)" % (text.count, text.what)
+    if done.returncode != 0 or done.stdout != text.map or done.stderr:
+        sys.exit("%s ended with status %d: %r %r" % (what, done.returncode, done.stdout[:200], done.stderr[:200]))
     with open(target, "rb") as file:
-        if code_of(count) not in file.read():
-            sys.exit("a link of %d words wrote another code" % count)
+        if text.code not in file.read():
+            sys.exit("%s wrote another code" % what)
     return took
 
 
@@ -70,47 +125,55 @@ def timed_peer(peer, source, target):
     return took
 
 
+def over_peer(text, took, start, peer, peer_start):
+    """The time of a link over that of LLVM's linker."""
+    return took / peer if text.what == BRANCHES else (took - start) / (peer - peer_start)
+
+
 def measure(program, peer, rounds, folder):
-    """Yields count, seconds a word, bytes of object and container, bytes of memory for each of them, and the time over
-    that of LLVM's linker, or None without it."""
-    counts = (1, *SIZES)
-    sources = {count: os.path.join(folder, "%d.o" % count) for count in counts}
-    targets = {count: os.path.join(folder, "%d.pvm" % count) for count in counts}
-    for count in counts:
-        with open(sources[count], "wb") as file:
-            file.write(object_of(words_of(count)))
-    took = {count: [] for count in counts}
-    peers = {count: [] for count in counts}
+    """Yields each text, the seconds a word, the bytes of object and container, the bytes of memory for each of them, and
+    the time over that of LLVM's linker, or None without it. The first text, of one word, is left out."""
+    texts = [branches(1), *(branches(count) for count in SIZES), relocations(), calls()]
+    sources = [os.path.join(folder, "%d.o" % number) for number in range(len(texts))]
+    targets = [os.path.join(folder, "%d.pvm" % number) for number in range(len(texts))]
+    for text, source in zip(texts, sources):
+        with open(source, "wb") as file:
+            file.write(text.object)
+    took, peers = [[] for _ in texts], [[] for _ in texts]
     for _ in range(rounds):
-        for count in counts:
-            for _ in range(min(8, SIZES[-1] // count)):
-                took[count].append(timed_link(program, sources[count], targets[count], count))
+        for number, text in enumerate(texts):
+            for _ in range(max(1, min(8, SIZES[-1] // text.count))):
+                took[number].append(timed_link(program, sources[number], targets[number], text))
                 if peer:
-                    peers[count].append(timed_peer(peer, sources[count], os.path.join(folder, "peer")))
+                    peers[number].append(timed_peer(peer, sources[number], os.path.join(folder, "peer")))
     idle = peak([program], BAD_COMMAND_LINE)
-    for count in SIZES:
-        a_word = (min(took[count]) - min(took[1])) / (count - 1)
-        size = os.path.getsize(sources[count]) + os.path.getsize(targets[count])
-        memory = peak([program, "link", "-o", targets[count], sources[count]], 0) - idle
-        yield count, a_word, size, memory / size, min(took[count]) / min(peers[count]) if peer else None
+    start = min(took[0])
+    for text, source, target, ours, theirs in list(zip(texts, sources, targets, took, peers))[1:]:
+        size = os.path.getsize(source) + os.path.getsize(target)
+        memory = peak([program, "link", "-o", target, source], 0) - idle
+        beside = over_peer(text, min(ours), start, min(theirs), min(peers[0])) if peer else None
+        yield text, (min(ours) - start) / (text.count - 1), size, memory / size, beside
 
 
 def main():
     program, rounds = asked(5)
+    found = {BRANCHES: [], RELOCATIONS: [], CALLS: []}
     with tempfile.TemporaryDirectory() as folder:
-        found = []
-        for count, a_word, size, a_byte, beside in measure(program, shutil.which("ld.lld-19"), rounds, folder):
+        for text, a_word, size, a_byte, beside in measure(program, shutil.which("ld.lld-19"), rounds, folder):
             peer = "" if beside is None else "  %6.3f of ld.lld's time" % beside
-            print("%8d words  %9d bytes  %8.2f ns a word  %6.2f bytes of memory a byte%s" % (count, size, a_word * 1e9, a_byte, peer), flush=True)
-            found.append((a_word, a_byte, beside))
-    shortest, longest = found[0][0], found[-1][0]
+            row = "%8d words, %-11s  %9d bytes  %8.2f ns a word  %6.2f bytes of memory a byte%s"
+            print(row % (text.count, text.what, size, a_word * 1e9, a_byte, peer), flush=True)
+            found[text.what].append((a_word, a_byte, beside))
+    shortest, longest = found[BRANCHES][0][0], found[BRANCHES][-1][0]
     if shortest <= 0:
         sys.exit("a link of %d words takes no longer than one of a word: try more --rounds" % SIZES[0])
-    in_time = judged("time a word of %d words over that of %d:" % (SIZES[-1], SIZES[0]), longest / shortest, TIME_BAR)
-    in_memory = judged("most bytes of memory a byte:", max(a_byte for _, a_byte, _ in found), MEMORY_BAR)
-    beside = found[-1][2]
-    in_speed = beside is None or judged("time of %d words over that of ld.lld:" % SIZES[-1], beside, SPEED_BAR)
-    return 0 if in_time and in_memory and in_speed else 1
+    within = [judged("time a word of %d words over that of %d:" % (SIZES[-1], SIZES[0]), longest / shortest, TIME_BAR)]
+    for what, bar in MEMORY_BARS.items():
+        within.append(judged("most bytes of memory a byte, %s:" % what, max(a_byte for _, a_byte, _ in found[what]), bar))
+    for what, bar in SPEED_BARS.items():
+        beside = found[what][-1][2]
+        within.append(beside is None or judged("time over that of ld.lld, %s:" % what, beside, bar))
+    return 0 if all(within) else 1
 
 
 sys.exit(main())

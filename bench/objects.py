@@ -1,5 +1,5 @@
 #!/usr/bin/env python3
-"""Time and memory in which `polkatool link` reads and resolves large objects, and its answers to a folder of programs.
+"""Time and memory in which `polkatool link` links large objects, and its answers to a folder of programs.
 
     objects.py [PROGRAM] [--rounds 5] [--sections 10000] [--symbols 100000] [--relocations 100000]
     objects.py [PROGRAM] --corpus FOLDER [--rounds 5]
@@ -9,10 +9,11 @@ PROGRAM is crates/polkatool/out/polkatool of this repository if left out. It run
 no value is over its bar and every run ended as it may, else 1.
 
 Without --corpus it makes an object with so many sections (an even number), symbols and relocations, one with half and
-one with a quarter as many of each. Half of the sections are code, and each of these has relocations: RELAX, and in the
-last one R_RISCV_HI20 too. No object has a fault. So the answer is code 63 at the first R_RISCV_HI20, as long as
-relocations aren't linked, and before it is told everything is read, every name is resolved, and every section, word and
-relocation is looked at. Each answer is compared with that.
+one with a quarter as many of each. Almost half of the sections are loaded, and each of these has relocations. The last
+of them is a table of data, to which a quarter of the relocations belongs: R_RISCV_64 of functions. All others are code,
+with R_RISCV_HI20 and R_RISCV_LO12_I of the data, R_RISCV_CALL_PLT of functions and R_RISCV_BRANCH in turn, and
+R_RISCV_RELAX after each. All objects are linked, and each answer is compared with what it has to be: the map whole, and
+in the container the jump table, the code and the data.
 
 Time: the least of the rounds, less the least time of a run without words, for each byte of the object. The sizes take
 turns, and the smaller ones are linked two and four times a round. The bar is on that of the whole object over that of
@@ -24,140 +25,183 @@ With --corpus each program.json below FOLDER is a program: `entries` are its ent
 `objects`, by their paths from the folder that holds the program's own, `imports` by names, and perhaps `stack`. Each
 variant is linked, and each object alone, and it is counted which answers there were, by the first line without the
 place. A run that crashes, gives no answer in time, ends with another status than 0 and 1 or puts another line is told.
-Of the variants whose objects were all read, that with the most bytes is then measured, as the objects above are.
+Of the variants that were linked, that with the most bytes is then measured, as the objects above are, and beside it,
+where it is installed, LLVM's linker, `ld.lld-19 --no-relax`. Whole times are compared.
 
 With --hostile it makes objects of almost 2^24 bytes whose sections, relocations or names share as many bytes as they
-may, and one as above of that size. Each is linked in turn, and its time is printed beside that of the last one. There
-is no bar: what bounds these times is said in docs/DECISIONS.md.
+may, or whose relocations of code are many, or many at one word, and one as above of that size. Each is linked in turn, and
+its time is printed beside that of the last one. There is no bar, but each has to be answered in time and with its status:
+what bounds these times is said in docs/DECISIONS.md.
 """
 import collections
+import itertools
 import json
 import os
 import re
-import struct
+import shutil
 import subprocess
 import sys
 import tempfile
 
 sys.dont_write_bytecode = True
-from common import BAD_COMMAND_LINE, ROOT, judged, parser, peak, program_in, seconds
-
-sys.path.insert(0, os.path.join(ROOT, "examples", "five"))
-from make import ALLOC_AND_EXECINSTR, GLOBAL_FUNCTION, PROGBITS, RELOCATABLE, RISCV, RV64E, STRTAB, SYMTAB, section
+from common import BAD_COMMAND_LINE, judged, parser, peak, program_in, seconds
+from elf import (
+    ADD64, ADDI, ADDI_A0, ALLOC, ALLOC_AND_EXECINSTR, AUIPC_A0, AUIPC_RA, BNE_A0, BRANCH, CALL_PLT, GLOBAL_FUNCTION,
+    GLOBAL_UNDEFINED, HI20, INFO_LINK, JALR_RA, LARGEST, LO12_I, LOCAL, LUI_A0, PCREL_HI20, PCREL_LO12_I, PROGBITS, RELA, RELAX,
+    RET, STRTAB, SYMTAB, Sections, WEAK_FUNCTION, WEAK_UNDEFINED, WORD64, file_of, relocation, section, symbol, word_bytes,
+)
+from linked import (
+    ADD_IMM, ADD_IMM_8, ENTRY_JUMP, ENTRY_LINE, FALLTHROUGH, JUMP_IND, branch_ne_imm, code_line, data_line, jump_table,
+    load_imm, load_imm_jump, number_of,
+)
 
 RATIO_BAR = 1.5  # time a byte of the largest object over that of the smallest
 MEMORY_BAR = 4  # bytes of memory a byte of object, besides the object
-TIMEOUT = 300  # seconds for one link of a corpus
+CORPUS_MEMORY_BAR = 48  # the same of the largest link of a corpus, whose object is small
+CORPUS_SPEED_BAR = 1  # time of that link over that of LLVM's linker
+TIMEOUT = 300  # seconds for one link of a corpus or of a hostile object
 DONE, REFUSED, NO_MEMORY = 0, 1, 9  # the statuses of a link, of a refusal and of want of memory
-LARGEST = 1 << 24  # the bytes of the largest object
 MOST_SECTIONS = 0xFFFF
 MOST_RELOCATIONS = 1 << 24  # of an object, else it is refused as memory is
 MOST_NAME_BYTES = 1 << 28  # of the GLOBAL and WEAK symbols, else they are refused as memory is
 
-RELA = 4
-INFO_LINK = 0x40  # the flag of a section whose info is the number of a section
-LOCAL, GLOBAL_UNDEFINED, WEAK_UNDEFINED, WEAK_FUNCTION = 0x00, 0x10, 0x20, 0x22
-RELAX, HI20 = 51, 26  # relocation types of the psABI
-ADDI, RET = 0x00150513, 0x00008067
-TEXT = struct.pack("<8I", *[ADDI] * 7, RET)
+PLAIN = 8  # the words at the start of a text, which symbols stand for
+USES = (HI20, LO12_I, CALL_PLT, BRANCH)  # what the words after these have, in turn
+USE_WORDS = {HI20: (LUI_A0,), LO12_I: (ADDI_A0,), CALL_PLT: (AUIPC_RA, JALR_RA), BRANCH: (BNE_A0,)}
+TABLE, FIRST_LABEL = 1, 2  # the symbols of the data and of the first word of the first text
+TABLE_ADDRESS = 0x10000
+TABLE_CODE = {HI20: load_imm(TABLE_ADDRESS), LO12_I: ADD_IMM_8}
+TEXT = word_bytes([ADDI] * 7 + [RET])
+
+# an object, the map that it is linked to, and pieces of the container: jump table and code, and the data
+Case = collections.namedtuple("Case", "object map pieces")
 
 
-def symbol(name, info, index, value):
-    """An entry of a symbol table. Its name is an offset in the names of symbols."""
-    return struct.pack("<IBBHQQ", name, info, 0, index, value, 0)
+def section_of(text):
+    """The number of the section of a text, or with the number of texts that of the data."""
+    return 1 + 2 * text
+
+
+def word_at(n, texts):
+    """One of the plain words, by its text and its offset: those at the starts of all texts first."""
+    return n % texts, 4 * (n // texts % PLAIN)
 
 
 def symbols_of(count, texts):
-    """Entries of a symbol table and their names, the number of the first that isn't LOCAL, and of `main`.
+    """Entries of a symbol table and their names, the number of the first that isn't LOCAL, and what those from there on
+    stand for.
 
-    A quarter is LOCAL. Then comes `main` at the start of section 1, and behind it, in turn, a GLOBAL and a WEAK
-    definition, an undefined WEAK symbol of the GLOBAL one's name, and an undefined GLOBAL one of a name of its own.
+    A quarter is LOCAL: the data, and plain words. Then comes `main` at the start of the first text, and behind it, in turn,
+    a GLOBAL and a WEAK definition, an undefined WEAK symbol of the GLOBAL one's name, and an undefined GLOBAL one of the WEAK
+    one's name.
     """
     first = count // 4
-    entries, names = [symbol(0, 0, 0, 0)], bytearray(b"\0")
-
-    def named(text):
-        names.extend(text.encode() + b"\0")
-        return len(names) - len(text) - 1
-
-    for n in range(1, first):
-        entries.append(symbol(named(".L%07d" % n), LOCAL, 1 + 2 * (n % texts), 4 * (n % 8)))
-    entries.append(symbol(named("main"), GLOBAL_FUNCTION, 1, 0))
-    defined = 0
+    named = [(".L%07d" % n, LOCAL, word_at(n - FIRST_LABEL, texts)) for n in range(FIRST_LABEL, first)]
+    named.append(("main", GLOBAL_FUNCTION, word_at(0, texts)))
     for n in range(first + 1, count):
-        index, value = 1 + 2 * (n % texts), 4 * (n % 8)
         turn = (n - first) % 4
-        if turn == 1:
-            defined = named("global%07d" % n)
-            entries.append(symbol(defined, GLOBAL_FUNCTION, index, value))
-        elif turn == 2:
-            entries.append(symbol(named("weak%07d" % n), WEAK_FUNCTION, index, value))
-        elif turn == 3:
-            entries.append(symbol(defined, WEAK_UNDEFINED, 0, 0))
+        if turn in (1, 2):
+            kind = ("global%07d" % n, GLOBAL_FUNCTION) if turn == 1 else ("weak%07d" % n, WEAK_FUNCTION)
+            named.append((*kind, word_at(n, texts)))
         else:
-            entries.append(symbol(named("absent%07d" % n), GLOBAL_UNDEFINED, 0, 0))
-    return b"".join(entries), bytes(names), first
+            named.append((named[-2][0], WEAK_UNDEFINED if turn == 3 else GLOBAL_UNDEFINED, None))
+    names, offsets = bytearray(b"\0table\0"), {}
+    entries = [symbol(0, 0, 0, 0), symbol(1, LOCAL, section_of(texts), 8)]
+    for name, info, word in named:
+        if word:
+            offsets[name] = len(names), word
+            names.extend(name.encode() + b"\0")
+        index, value = (section_of(word[0]), word[1]) if word else (0, 0)
+        entries.append(symbol(offsets[name][0], info, index, value))
+    return b"".join(entries), bytes(names), first, [offsets[name][1] for name, _, _ in named[first - FIRST_LABEL :]]
 
 
-def relocations_of(count, texts, main):
-    """The entries for each section of code, RELAX and in the last section also HI20 of `main`, which comes first."""
-    tables = []
-    for text in range(texts):
-        kinds = (HI20, RELAX) if text == texts - 1 else (RELAX, RELAX)
-        here = count * (text + 1) // texts - count * text // texts
-        entries = bytearray()
-        for k in range(here):
-            kind = kinds[k % 2]
-            entries += struct.pack("<QIIq", 4 * (k // 2 % 8), kind, main if kind == HI20 else 0, 0)
-        tables.append(entries)
-    return tables
+def relocations_of(uses, count):
+    """The entries for a text with these uses: so many, each use's own and RELAX."""
+    entries, at = bytearray(), 4 * PLAIN
+    for kind, number in uses:
+        entries += relocation(at, kind, number) + relocation(at, RELAX, 0)
+        at += 4 * len(USE_WORDS[kind])
+    return entries[: count * len(relocation(0, RELAX, 0))]
+
+
+def code_of(uses, words_named, named, indexes, positions):
+    """The code of all texts with these uses, and the position of each plain word and of each place at which a call returns.
+    What a call names is among these words, those in the set are named, and the places have these indexes in the address map
+    and these positions, as far as they are known."""
+    code, found = bytearray(ENTRY_JUMP), {}
+    for text, uses_here in enumerate(uses):
+        for at in range(0, 4 * PLAIN, 4):
+            code += FALLTHROUGH if at and (text, at) in named else b""
+            found[text, at] = len(code)
+            code += ADD_IMM
+        at = 4 * PLAIN
+        for kind, number in uses_here:
+            at += 4 * len(USE_WORDS[kind])
+            if kind == CALL_PLT:
+                code += load_imm_jump(number_of(indexes[text, at]), positions.get(words_named[number], 0) - len(code))
+                found[text, at] = len(code)
+            elif kind == BRANCH:
+                code += branch_ne_imm(found[text, 0] - len(code))
+            else:
+                code += TABLE_CODE[kind]
+        code += JUMP_IND
+    return code, found
+
+
+def returns_in(uses):
+    """The places at which the calls of all texts return."""
+    for text, uses_here in enumerate(uses):
+        at = 4 * PLAIN
+        for kind, _ in uses_here:
+            at += 4 * len(USE_WORDS[kind])
+            if kind == CALL_PLT:
+                yield text, at
+
+
+def answer_of_case(uses, words_named, addresses, size):
+    """The map, and the pieces of the container, for texts with these uses and data with these addresses of functions."""
+    words_at = {words_named[number] for number in addresses}
+    places = sorted({*returns_in(uses), *words_at})
+    indexes = {place: index for index, place in enumerate(places)}
+    words_at |= {words_named[number] for uses_here in uses for kind, number in uses_here if kind == CALL_PLT}
+    _, found = code_of(uses, words_named, words_at, indexes, {})
+    code, found = code_of(uses, words_named, words_at, indexes, found)
+    lines = [ENTRY_LINE, data_line(TABLE_ADDRESS, size, section_of(len(uses)))]
+    lines += [code_line(index, found[text, at], section_of(text), at) for index, (text, at) in enumerate(places)]
+    data = b"".join(number_of(indexes[words_named[number]]).to_bytes(8, "little") for number in addresses)
+    return b"".join(lines), (jump_table([found[place] for place in places]) + code, data)
 
 
 def object_of(sections, symbols, relocations):
-    """The bytes of the object, and the line with which it is refused."""
-    texts = sections // 2 - 2
-    if sections % 2 or texts < 1 or symbols < 8 or relocations < texts or sections > 0xFEFF:
-        sys.exit("needed are an even number of sections from 6 to 65278, 8 symbols and a relocation for each text")
-    entries, names, first = symbols_of(symbols, texts)
-    tables = relocations_of(relocations, texts, first)
-    table_at = 2 * texts + 1  # the number of the symbol table, behind which the two tables of names stand
-    body, headers = bytearray(64), [section(0, 0, 0, 0, 0, 0, 0, 0, 0)]
-    section_names = bytearray(b"\0")
-
-    def add(name, kind, flags, content, link, info, align, entry):
-        body.extend(bytes(-len(body) % align))
-        headers.append(section(name, kind, flags, len(body), len(content), link, info, align, entry))
-        body.extend(content)
-
-    for text, table in enumerate(tables):
-        number = 1 + 2 * text
-        name = len(section_names)
-        section_names.extend(b".rela.text.f%05d\0" % text)
-        add(name + len(".rela"), PROGBITS, ALLOC_AND_EXECINSTR, TEXT, 0, 0, 4, 0)
-        add(name, RELA, INFO_LINK, table, table_at, number, 8, 24)
-    at = len(section_names)
-    section_names.extend(b".symtab\0.strtab\0.shstrtab\0")
-    add(at, SYMTAB, 0, entries, table_at + 1, first, 8, 24)
-    add(at + 8, STRTAB, 0, names, 0, 0, 1, 0)
-    add(at + 16, STRTAB, 0, section_names, 0, 0, 1, 0)
-    line = "refused 63 NotBuilt object=0 section=%d offset=0\n" % (2 * texts - 1)
-    return file_of(body, headers, table_at + 2), line.encode()
+    """The object with so many sections, symbols and relocations, and what it is linked to."""
+    texts = sections // 2 - 3
+    of_data = relocations // 4
+    of_code = relocations - of_data
+    if sections % 2 or texts < 1 or symbols < 2 * sections or relocations < sections or sections > 0xFEFF:
+        sys.exit("needed are an even number of sections from 8 to 65278, as many relocations and twice as many symbols")
+    entries, names, first, words_named = symbols_of(symbols, texts)
+    words_named = dict(enumerate(words_named, first))
+    functions = itertools.cycle(words_named)
+    made = Sections(section_of(texts) + 2)
+    uses = []
+    for text in range(texts):
+        count = of_code * (text + 1) // texts - of_code * text // texts
+        kinds = [USES[k // 2 % len(USES)] for k in range(0, count, 2)]
+        symbol_for = {HI20: TABLE, LO12_I: TABLE, BRANCH: FIRST_LABEL + text}
+        uses.append([(kind, symbol_for.get(kind) or next(functions)) for kind in kinds])
+        content = [ADDI] * PLAIN + [word for kind in kinds for word in USE_WORDS[kind]] + [RET]
+        made.add_relocated(".text.f%05d" % text, ALLOC_AND_EXECINSTR, word_bytes(content), relocations_of(uses[-1], count))
+    addresses = [next(functions) for _ in range(of_data)]
+    table = b"".join(relocation(8 * n, WORD64, number) for n, number in enumerate(addresses))
+    made.add_relocated(".rodata", ALLOC, bytes(8 * of_data), table, 8)
+    return Case(made.ended(entries, first, names), *answer_of_case(uses, words_named, addresses, 8 * of_data))
 
 
-def file_of(body, headers, names):
-    """The bytes of an object, of which the first 64 of the body are kept for its header: the number of the section with
-    the names of sections is the last."""
-    body.extend(bytes(-len(body) % 8))
-    header = b"\x7fELF\x02\x01\x01" + bytes(9)
-    sizes = (64, 0, 0, 64, len(headers), names)
-    header += struct.pack("<HHIQQQIHHHHHH", RELOCATABLE, RISCV, 1, 0, 0, len(body), RV64E, *sizes)
-    body[:64] = header
-    return bytes(body) + b"".join(headers)
-
-
-def hostile_object(count, entries, symbols, names, section_names, shared):
-    """An object of almost the largest size, with a section of code, so many RELA sections that share these entries, the
-    symbols and their names, and further sections up to a count, each with the name at the start of the shared one."""
+def hostile_object(count, entries, symbols, names, section_names, shared, changed=1):
+    """An object of almost the largest size, with a section of code and one of data, so many RELA sections for the one of
+    these with the number `changed` that share these entries, the symbols and their names, and `main` behind these, and
+    further sections up to a count, each with the name at the start of the shared one."""
     body = bytearray(64)
 
     def put(content):
@@ -165,14 +209,43 @@ def hostile_object(count, entries, symbols, names, section_names, shared):
         body.extend(content)
         return len(body) - len(content), len(content)
 
-    rows = [(1, PROGBITS, ALLOC_AND_EXECINSTR, *put(TEXT), 0, 0, 4, 0)]
-    rows += [(1, RELA, INFO_LINK, *put(entries), 2, 1, 8, 24)] if shared else []
-    rows = rows[:1] + [(1, SYMTAB, 0, *put(symbols), 3, 1, 8, 24), (1, STRTAB, 0, *put(names), 0, 0, 1, 0)] + rows[1:] * shared
+    symbols, names = symbols + symbol(len(names), GLOBAL_FUNCTION, 1, 0), names + b"main\0"
+    rows = [(1, PROGBITS, ALLOC_AND_EXECINSTR, *put(TEXT), 0, 0, 4, 0), (1, PROGBITS, ALLOC, *put(bytes(8)), 0, 0, 8, 0)]
+    rows += [(1, SYMTAB, 0, *put(symbols), 4, 1, 8, 24), (1, STRTAB, 0, *put(names), 0, 0, 1, 0)]
+    rows += [(1, RELA, INFO_LINK, *put(entries), 3, changed, 8, 24)] * shared
     rows += [(1, PROGBITS, ALLOC_AND_EXECINSTR, 0, 0, 0, 0, 4, 0)] * (count - len(rows) - 2)
     room = LARGEST - len(body) - 64 * (len(rows) + 2) - 16
     text = b"\0" + b"n" * (room - 2 if section_names else 8) + b"\0"
     rows.append((1, STRTAB, 0, *put(text + bytes(room - len(text))), 0, 0, 1, 0))
     return file_of(body, [section(0, 0, 0, 0, 0, 0, 0, 0, 0), *(section(*row) for row in rows)], len(rows))
+
+
+def hostile_code(text, entries, label):
+    """An object with these words and relocations, which may name the data in section 3, a word at an offset, or `main`."""
+    sections = Sections(4)
+    sections.add_relocated(".text", ALLOC_AND_EXECINSTR, word_bytes(text), entries)
+    sections.add(".rodata", PROGBITS, ALLOC, bytes(16), align=8)
+    symbols = symbol(0, 0, 0, 0) + symbol(1, LOCAL, 3, 8) + symbol(7, LOCAL, 1, label) + symbol(13, GLOBAL_FUNCTION, 1, 0)
+    return sections.ended(symbols, 3, b"\0table\0label\0main\0")
+
+
+def jal(by):
+    """The word of a jump forward that keeps no link, which leads less than 2^20 bytes on."""
+    return (by >> 1 & 0x3FF) << 21 | (by >> 11 & 1) << 20 | (by >> 12 & 0xFF) << 12 | 0x6F
+
+
+def hostile_codes():
+    """What each object is whose relocations of code are many, or many at one word, the status of its link, and its bytes."""
+    most = (LARGEST - 4096) // 28
+    backwards = b"".join(relocation(4 * n, HI20, 1) for n in range(most - 1, -1, -1))
+    yield "relocations from the last to the first", DONE, hostile_code([LUI_A0] * most + [RET], backwards, 0)
+    half = (LARGEST - 4096) // 48
+    entries = relocation(0, PCREL_LO12_I, 2) * half + relocation(4, PCREL_HI20, 1) * half
+    yield "many lower parts of a word with many", REFUSED, hostile_code([ADDI_A0, AUIPC_A0, RET], entries, 4)
+    jumps = (1 << 18) - 4
+    most = (LARGEST - 4 * jumps - 4096) // 24
+    text = [jal(4 * (jumps + 1 - n)) for n in range(jumps)] + [AUIPC_RA, JALR_RA, RET]
+    yield "many jumps behind a word with many", REFUSED, hostile_code(text, relocation(4 * jumps, PCREL_HI20, 1) * most, 0)
 
 
 def names_that_share(words, length):
@@ -183,59 +256,83 @@ def names_that_share(words, length):
 
 
 def hostile_objects():
-    """What each hostile object is, and its bytes."""
+    """What each hostile object is, the status of its link, and its bytes."""
     null = symbol(0, 0, 0, 0)
-    relax = struct.pack("<QIIq", 0, RELAX, 0, 0)
+    relax = relocation(0, RELAX, 0)
     room = LARGEST - 4096
     each = MOST_RELOCATIONS // 32
-    yield "sections of one name", hostile_object(MOST_SECTIONS, b"", null, b"\0", True, 0)
-    yield "relocations shared, as many as may be", hostile_object(0, relax * each, null, b"\0", False, 32)
-    yield "relocations shared, too many", hostile_object(0, relax * each, null, b"\0", False, 60000)
+    yield "sections of one name", DONE, hostile_object(MOST_SECTIONS, b"", null, b"\0", True, 0)
+    yield "relocations shared, as many as may be", DONE, hostile_object(0, relax * each, null, b"\0", False, 32)
+    yield "relocations shared, too many", NO_MEMORY, hostile_object(0, relax * each, null, b"\0", False, 60000)
     one = b"\0" + b"n" * (room // 3) + b"\0"
     count = room // 3 // 24
     few = MOST_NAME_BYTES // len(one) - 1
-    yield "symbols of one name, too many", hostile_object(0, b"", null + symbol(1, GLOBAL_UNDEFINED, 0, 0) * count, one, False, 0)
-    yield "symbols of one name, as many as may be", hostile_object(0, b"", null + symbol(1, GLOBAL_UNDEFINED, 0, 0) * few, one, False, 0)
+    absent = symbol(1, GLOBAL_UNDEFINED, 0, 0)
+    yield "symbols of one name, too many", NO_MEMORY, hostile_object(0, b"", null + absent * count, one, False, 0)
+    yield "symbols of one name, as many as may be", DONE, hostile_object(0, b"", null + absent * few, one, False, 0)
     for what, words, length in ("names that share bytes, long", 1, 23000), ("names that share bytes, many", 228, 1520):
         names, starts = names_that_share(words, length)
         entries = b"".join(symbol(at, GLOBAL_FUNCTION, 1, 0) for at in starts)
-        yield what, hostile_object(0, b"", null + entries, names, False, 0)
+        yield what, DONE, hostile_object(0, b"", null + entries, names, False, 0)
+    yield "relocations of a number, shared", DONE, hostile_object(0, relocation(0, ADD64, 1) * each, null, b"\0", False, 32, 2)
+    yield "relocations of a word, shared", REFUSED, hostile_object(0, relocation(0, HI20, 1) * each, null, b"\0", False, 32)
+    yield from hostile_codes()
+
+
+def timed_hostile(program, source, folder, status):
+    """The seconds of one link, which has to end with the status, or TIMEOUT where it takes longer."""
+    try:
+        return timed(program, ["link", "-o", os.path.join(folder, "out.pvm"), source], status, None, TIMEOUT)
+    except subprocess.TimeoutExpired:
+        return TIMEOUT
 
 
 def measure_hostile(program, options, folder):
-    """Prints the time of each hostile object beside that of a harmless one of the same size."""
-    part = next(part for part in range(100, 0, -1) if len(object_of(200 * part, 2000 * part, 2000 * part)[0]) <= LARGEST)
-    harmless = object_of(200 * part, 2000 * part, 2000 * part)[0]
-    cases = [*hostile_objects(), ("none of these", harmless)]
+    """Prints the time of each hostile object beside that of a harmless one of the same size; whether each was answered."""
+    part = next(part for part in range(100, 0, -1) if len(object_of(200 * part, 2000 * part, 2000 * part).object) <= LARGEST)
+    harmless = object_of(200 * part, 2000 * part, 2000 * part).object
+    cases = [*hostile_objects(), ("none of these", DONE, harmless)]
     took = [[] for _ in cases]
     starts = []
     sources = []
-    for number, (_, content) in enumerate(cases):
+    for number, (_, _, content) in enumerate(cases):
         sources.append(os.path.join(folder, "%d.o" % number))
         with open(sources[-1], "wb") as file:
             file.write(content)
-    statuses = {}
     for _ in range(options.rounds):
         starts.append(started(program))
-        for number, source in enumerate(sources):
-            time, done = seconds([program, "link", "-o", os.path.join(folder, "out.pvm"), source])
-            if done.returncode not in (DONE, REFUSED, NO_MEMORY):
-                sys.exit("%s ended with status %d" % (cases[number][0], done.returncode))
-            statuses[number] = done.returncode
-            took[number].append(time)
+        for number, (_, status, _) in enumerate(cases):
+            if TIMEOUT not in took[number]:
+                took[number].append(timed_hostile(program, sources[number], folder, status))
     start = min(starts)
     usual = (min(took[-1]) - start) / len(harmless)
-    for number, (what, content) in enumerate(cases):
+    for number, (what, status, content) in enumerate(cases):
         a_byte = (min(took[number]) - start) / len(content)
-        text = "%-40s %9d bytes  status %d  %9.2f ns a byte  %8.2f times the last"
-        print(text % (what, len(content), statuses[number], a_byte * 1e9, a_byte / usual))
+        if TIMEOUT in took[number]:
+            print("%-40s %9d bytes  no answer in %d s" % (what, len(content), TIMEOUT))
+        else:
+            text = "%-40s %9d bytes  status %d  %9.2f ns a byte  %8.2f times the last"
+            print(text % (what, len(content), status, a_byte * 1e9, a_byte / usual))
+    return not any(TIMEOUT in times for times in took)
 
 
-def timed(program, words, status, line):
-    """The seconds of one link, which has to end with the status and, where one is given, with this line."""
-    took, done = seconds([program, *words])
-    if done.returncode != status or line is not None and (done.stdout or done.stderr != line):
+def timed(program, words, status, case, most=None):
+    """The seconds of one link, which has to end with the status and, where one is given, with the map of the case."""
+    took, done = seconds([program, *words], most)
+    if done.returncode != status or case and (done.stdout != case.map or done.stderr):
         sys.exit("%s ended with status %d: %r %r" % (words, done.returncode, done.stdout[:200], done.stderr[:200]))
+    return took
+
+
+def timed_case(program, source, target, case):
+    """The seconds of one link of a case, whose answer is looked at."""
+    if os.path.exists(target):
+        os.remove(target)
+    took = timed(program, ["link", "-o", target, source], DONE, case)
+    with open(target, "rb") as file:
+        content = file.read()
+    if not all(piece in content for piece in case.pieces):
+        sys.exit("a link of %s wrote another program" % source)
     return took
 
 
@@ -254,24 +351,24 @@ def told(what, size, took, start, memory):
 
 def measure(program, options, folder):
     """Measures the objects, the smallest first: the seconds and the bytes of memory a byte of each."""
+    target = os.path.join(folder, "out.pvm")
     cases = []
     for part in (4, 2, 1):
         counts = [options.sections // part // 2 * 2, options.symbols // part, options.relocations // part]
-        content, line = object_of(*counts)
+        case = object_of(*counts)
         source = os.path.join(folder, "%d.o" % part)
         with open(source, "wb") as file:
-            file.write(content)
-        what = "%d sections %d %d" % tuple(counts)
-        cases.append((what, len(content), ["link", "-o", os.path.join(folder, "out.pvm"), source], line, part, []))
+            file.write(case.object)
+        cases.append(("%d sections %d %d" % tuple(counts), case, source, part, []))
     starts = []
     for _ in range(options.rounds):
         starts.append(started(program))
-        for _, _, words, line, part, took in cases:
-            took.extend(timed(program, words, REFUSED, line) for _ in range(part))
+        for _, case, source, part, took in cases:
+            took.extend(timed_case(program, source, target, case) for _ in range(part))
     idle = peak([program], BAD_COMMAND_LINE)
     return [
-        told(what, size, min(took), min(starts), peak([program, *words], REFUSED) - idle)
-        for what, size, words, _, _, took in cases
+        told(what, len(case.object), min(took), min(starts), peak([program, "link", "-o", target, source], DONE) - idle)
+        for what, case, source, _, took in cases
     ]
 
 
@@ -312,12 +409,6 @@ def answer_of(program, words):
     return None, "status %d: %s" % (done.returncode, line)
 
 
-def has_read_all(answer):
-    """Whether an answer is one that comes after all objects were read: the codes 1 to 8 and 61 come before."""
-    words = answer.split()
-    return words[0] != "refused" or int(words[1]) > 8 and int(words[1]) != 61
-
-
 def print_answers(what, answers):
     """Prints which answers there are and how often, and those that may not be; gives how many these are."""
     print("%s: %d" % (what, len(answers)))
@@ -327,6 +418,31 @@ def print_answers(what, answers):
     for text in wrong:
         print("not as it may end: %s" % text)
     return len(wrong)
+
+
+def timed_peer(peer, objects, target):
+    """The seconds of one link by LLVM's linker, which takes a name without a definition to be 0."""
+    took, done = seconds([peer, "--no-relax", "--unresolved-symbols=ignore-all", "-o", target, *objects])
+    if done.returncode != 0:
+        sys.exit("%s ended with status %d: %r" % (peer, done.returncode, done.stderr[:200]))
+    return took
+
+
+def measure_variant(program, rounds, variant, folder):
+    """Measures the link of a variant, also beside LLVM's linker where that is installed; whether all is within its bar."""
+    name, objects, words = variant
+    peer = shutil.which("ld.lld-19")
+    starts, took, peers = [], [], []
+    for _ in range(rounds):
+        starts.append(started(program))
+        took.append(timed(program, words, DONE, None))
+        if peer:
+            peers.append(timed_peer(peer, objects, os.path.join(folder, "peer")))
+    memory = peak([program, *words], DONE) - peak([program], BAD_COMMAND_LINE)
+    _, in_memory = told(name, size_of(objects), min(took), min(starts), memory)
+    in_memory = judged("bytes of memory a byte:", in_memory, CORPUS_MEMORY_BAR)
+    in_speed = not peer or judged("time over that of ld.lld:", min(took) / min(peers), CORPUS_SPEED_BAR)
+    return in_memory and in_speed
 
 
 def measure_corpus(program, options, folder):
@@ -340,15 +456,10 @@ def measure_corpus(program, options, folder):
     alone = [(path, *answer_of(program, target + [path])) for path in paths]
     if print_answers("programs", answers) + print_answers("objects alone", alone):
         return False
-    read = [(*variant, status) for variant, (_, status, answer) in zip(variants, answers) if has_read_all(answer)]
-    if not read:
+    linked = [variant for variant, (_, status, _) in zip(variants, answers) if status == DONE]
+    if not linked:
         return True
-    name, objects, words, status = max(read, key=lambda variant: size_of(variant[1]))
-    took = min(timed(program, words, status, None) for _ in range(options.rounds))
-    start = min(started(program) for _ in range(options.rounds))
-    memory = peak([program, *words], status) - peak([program], BAD_COMMAND_LINE)
-    _, in_memory = told(name, size_of(objects), took, start, memory)
-    return judged("bytes of memory a byte:", in_memory, MEMORY_BAR)
+    return measure_variant(program, options.rounds, max(linked, key=lambda variant: size_of(variant[1])), folder)
 
 
 def main():
@@ -364,8 +475,7 @@ def main():
         if options.corpus:
             return 0 if measure_corpus(program, options, folder) else 1
         if options.hostile:
-            measure_hostile(program, options, folder)
-            return 0
+            return 0 if measure_hostile(program, options, folder) else 1
         found = measure(program, options, folder)
     smallest, largest = found[0][0], found[-1][0]
     if smallest <= 0:
