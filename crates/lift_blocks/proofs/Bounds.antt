@@ -10,9 +10,10 @@ use Rattle.rv_decode.specs.declared.ops.RvOp.TheVariants as rv
 use Rattle.runs.specs.Machine.{Outcome, Next, Jump, Ends}
 use Rattle.runs.specs.Numbers.{to_named}
 use Rattle.runs.specs.World.{Leaves}
-use Rattle.machine_state.specs.State.{State}
+use Rattle.machine_state.specs.State.{State, register}
 use Rattle.machine_state.specs.Ends.{End, halt, panic}
 use Rattle.machine_state.specs.Hosts.{Bounds, bounds_of}
+use Rattle.machine_state.proofs.Heap.{sbrk_bounds}
 use Rattle.page_memory.proofs.Outcomes.{loads_by, stores_by}
 use Rattle.lift_blocks.specs.Arithmetic.{of_cond}
 use Rattle.lift_blocks.specs.Operations.{Plain, Branch, Jal, Jalr, Pair, HostCall, Sbrk}
@@ -64,4 +65,4 @@ bounds_stay table (Jal rd link target) s = value_stays s rd link
 bounds_stay table (Jalr rd rs1 i link) s = by_halt (bounds_of s) _ _ (with_value s rd link) (value_stays s rd link)
 bounds_stay table (Pair temp rd link target) s = two_stay s temp rd 0 link
 bounds_stay table (HostCall number) s = refl
-bounds_stay table Sbrk s = tt
+bounds_stay table Sbrk s = sbrk_bounds s 7 (register s 7)

@@ -1,6 +1,7 @@
 pub mod Renamed
 pub mod Order
 pub mod Lock
+pub mod Calls
 pub mod Bounds
 pub mod Walks
 pub mod Ordered

@@ -57,7 +57,7 @@ goes_on table (Jal rd link target) s next behind h = tt
 goes_on table (Jalr rd rs1 i link) s next behind h = by_goes _ _ (with_value s rd link) next behind
 goes_on table (Pair temp rd link target) s next behind h = tt
 goes_on table (HostCall number) s next behind h = h refl
-goes_on table Sbrk s next behind h = tt
+goes_on table Sbrk s next behind h = h refl
 
 past_le : {A : Type 0} (xs : List A) (q : ℕ) → slice_get xs q ≡ None → length xs ≤ q
 past_le [] q e = omega arith

@@ -83,11 +83,11 @@ plain_word needed next aim operand (Some rv.Fence) p n given e = refl
 plain_word needed next aim operand (Some rv.Trap) p n given e = absurd cc
 
 -- a pair never goes on
-abbrev is_jump : Option (Operation CodePlace) → Bool
+abbrev pub is_jump : Option (Operation CodePlace) → Bool
 is_jump None = true
 is_jump (Some op) = not (can_go_on op)
 
-pair_jumps : (needed : List CodePlace) (next target : CodePlace) (a b : Option RvOp) → is_jump (pair_op needed next target a b) ≡ true
+pub pair_jumps : (needed : List CodePlace) (next target : CodePlace) (a b : Option RvOp) → is_jump (pair_op needed next target a b) ≡ true
 pair_jumps needed next target None b = refl
 pair_jumps needed next target (Some (rv.Lui rd v)) b = refl
 pair_jumps needed next target (Some (rv.Auipc rd v)) b = by_second b

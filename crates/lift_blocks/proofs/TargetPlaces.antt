@@ -165,7 +165,7 @@ listed_none : (o : Option ℕ) → listed o ≡ [] → o ≡ None
 listed_none None e = refl
 listed_none (Some code) e = absurd cc
 
-pair_leads : (needed : List CodePlace) (next target t : CodePlace) (a b : Option RvOp) → target_in (pair_op needed next target a b) ≡ Some t → target ≡ t
+pub pair_leads : (needed : List CodePlace) (next target t : CodePlace) (a b : Option RvOp) → target_in (pair_op needed next target a b) ≡ Some t → target ≡ t
 pair_leads needed next target t (Some (rv.Auipc temp value)) (Some (rv.Jalr rd rs1 imm)) e = cc
 pair_leads needed next target t a b e = absurd cc
 
@@ -251,7 +251,7 @@ module _ (given : Given) (o s f : ℕ) (free : IsFaultless given o s f) where
           subst (λ q. is_place given q ≡ true) (pair_leads needed next (target_or given (operand_at given o s f) Nowhere) t (raw_at given (Code o s f)) (raw_at given (Code o s (f + 4))) h) there
       by_pair false pair h = by_word (raw_at given (Code o s f)) refl h
 
-stub_leads : (given : Given) (n at : ℕ) (t : CodePlace) → target_at given (Stub n at) ≡ Some t → ⊥
+pub stub_leads : (given : Given) (n at : ℕ) (t : CodePlace) → target_at given (Stub n at) ≡ Some t → ⊥
 unfolding operation_in
 stub_leads given n at t e = by_trap (nat_eq n (length given.wanted.imports) && nat_eq at 0) (slice_get given.wanted.imports n) e
   where
@@ -269,7 +269,7 @@ stub_leads given n at t e = by_trap (nat_eq n (length given.wanted.imports) && n
     by_trap true one h = absurd cc
     by_trap false one h = by_import one at h
 
-nowhere_leads : (given : Given) (t : CodePlace) → target_at given Nowhere ≡ Some t → ⊥
+pub nowhere_leads : (given : Given) (t : CodePlace) → target_at given Nowhere ≡ Some t → ⊥
 unfolding operation_in
 nowhere_leads given t e = absurd cc
 

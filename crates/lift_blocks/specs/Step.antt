@@ -18,6 +18,7 @@ use Rattle.runs.specs.Laid.{Fetched, step_at}
 use Rattle.runs.specs.World.{World, in_world}
 use Rattle.machine_state.specs.State.{State, register, with_register}
 use Rattle.machine_state.specs.Ends.{Event, End, Host, halt, panic, rules}
+use Rattle.machine_state.specs.Heap.{sbrk}
 use Rattle.page_memory.specs.Outcomes.{loads, stores}
 use Rattle.symbols.specs.Wanted.{Given}
 use Rattle.relocs.specs.Places.{CodePlace}
@@ -74,7 +75,8 @@ plain_does rv.Fence s = Next s
 plain_does op s = Ends (panic s)
 
 -- What an operation does, where numbers name the places of a table. A jalr takes its target before it writes its
--- link, modulo 2^32; one to 2^32 - 2^16 halts, and one to what is no number of the table panics.
+-- link, modulo 2^32; one to 2^32 - 2^16 halts, and one to what is no number of the table panics. An sbrk takes its size
+-- from a0 and leaves there where the heap ended, as a call of a function does.
 abbrev pub op_does : {Target : Type 0} → List Target → Operation Target → State → Outcome Target State End
 op_does table (Plain op) s = plain_does op s
 op_does table (Branch cond rs1 rs2 target) s = if holds (of_cond cond) (value s rs1) (value s rs2) then Jump target s else Next s
@@ -82,7 +84,7 @@ op_does table (Jal rd link target) s = Jump target (with_value s rd link)
 op_does table (Jalr rd rs1 imm link) s = jump_by halt panic table ((value s rs1 + word_of imm) % 2 ^ 32) (with_value s rd link)
 op_does table (Pair temp rd link target) s = Jump target (with_value (with_value s temp 0) rd link)
 op_does table (HostCall number) s = Call number s
-op_does table Sbrk s = Ends (panic s)
+op_does table Sbrk s = Next (sbrk s 7 (register s 7))
 
 abbrev pub behind : Given → CodePlace → Option (Operation CodePlace) → Option (Fetched (Operation CodePlace) CodePlace)
 behind given p None = None

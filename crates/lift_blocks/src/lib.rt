@@ -4,7 +4,7 @@
 //! same by their places do is a law.
 #![tactic(auto)]
 
-ghost use Rattle.lift_blocks.specs.Laws.{SourceLock, BoundsStay, LiftedIsOne};
+ghost use Rattle.lift_blocks.specs.Laws.{SourceLock, BoundsStay, CallsBeginBlocks, LiftedIsOne};
 
 mod entries;
 mod fault;
@@ -38,6 +38,11 @@ pub fn source_lock()
 /// No operation changes how far the heap may grow, or how many pages the memory may have.
 pub fn bounds_stay()
     ensures { BoundsStay }
+{}
+
+/// A call of the host begins a block, and has an operation behind it in its block.
+pub fn calls_begin_blocks()
+    ensures { CallsBeginBlocks }
 {}
 
 /// A link's input has one list of operations.
