@@ -13,7 +13,7 @@ use Rattle.runs.specs.Machine.{Outcome}
 use Rattle.runs.specs.Pieces.{NoCall, GoodOutcome}
 use Rattle.machine_state.specs.State.{State, register, with_register, IsState}
 use Rattle.machine_state.specs.Ends.{End}
-use Rattle.machine_state.proofs.Registers.{registers_stay}
+use Rattle.machine_state.proofs.Registers.{memory_stays, registers_stay}
 use Rattle.page_memory.specs.Outcomes.{widened, loads, stores}
 use Rattle.page_memory.proofs.Outcomes.{widened_fits, loads_by, stores_by}
 use Rattle.lift_blocks.specs.Operations.{Plain}
@@ -124,7 +124,7 @@ module _ (needed : List ℕ) where
   lowers_store_by width rs1 rs2 imm i is same =
       lowers_one needed (rv.Store width rs1 rs2 imm) i is (λ s g. same s)
       (λ s. stores_by {Target = ℕ} NoCall (store_bytes width) (value s rs1 + word_of imm) (value s rs2) s (λ memory. tt) (λ end. tt))
-      (λ s g. stores_by {Target = ℕ} (GoodOutcome IsState) (store_bytes width) (value s rs1 + word_of imm) (value s rs2) s (λ memory. g) (λ end. tt))
+      (λ s g. stores_by {Target = ℕ} (GoodOutcome IsState) (store_bytes width) (value s rs1 + word_of imm) (value s rs2) s (λ memory. memory_stays s memory g) (λ end. tt))
 
   -- a store of a register, or of x0 as the immediate 0
   pub lowers_store : (width : StoreWidth) (rs1 rs2 : Reg) (imm : ℤ) → LowersOp needed (Plain (rv.Store width rs1 rs2 imm))

@@ -1,5 +1,5 @@
 -- Jumps lead to beginnings of blocks, and so the pieces are a cut.
-use Rattle.std.proofs.Common.{◌≡◌, ℕ, zero, suc, ◌+◌, ◌/◌, ◌%◌, ◌^◌, Bool, true, false, List, [], ◌∷◌, Option, Some, None, refl, sym}
+use Rattle.std.proofs.Common.{◌≡◌, ℕ, zero, suc, ◌+◌, ◌/◌, ◌%◌, ◌^◌, Bool, true, false, List, [], ◌∷◌, length, Option, Some, None, refl, sym, arith}
 use Rattle.std.specs.Prelude.{slice_get, nat_eq, if◌then◌else◌}
 use Rattle.std.specs.List.{AllByRecursion}
 use Rattle.numbers.specs.Words.{word_of}
@@ -18,10 +18,13 @@ use Rattle.lift_blocks.specs.Operations.{Operation, Plain, Branch, Jal, Jalr, Pa
 use Rattle.lift_blocks.specs.Step.{value, with_value, load_bytes, load_has_sign, store_bytes, plain_does, op_does}
 use Rattle.lift_blocks.specs.Listed.{Lifted}
 use Rattle.lower.specs.Cutting.{Aimed, block_pieces, pieces, first_piece, instr_does, instr_places}
-use Rattle.lower.specs.Laws.{LoweredIsCut}
+use Rattle.lift_blocks.specs.Laws.{CallsBeginBlocks}
+use Rattle.lower.specs.Lowering.{is_call}
+use Rattle.lower.specs.Laws.{CallIsFirst, LoweredIsCut}
 use Rattle.lower.proofs.Lists.{all_at, all_joined}
-use Rattle.lower.proofs.Well.{IsWell, IsWellBlock, blocks_are_well, all_can}
-use Rattle.lower.proofs.Blocks.{one_is_all, pieces_are, blocks_are_carried}
+use Rattle.lower.proofs.Well.{IsWell, IsWellBlock, blocks_are_well, all_fit}
+use Rattle.lower.proofs.Blocks.{pieces_are, call_pieces, blocks_are_carried}
+use Rattle.lower.proofs.Calls.{calls_are_first}
 use Rattle.lower.proofs.Begin.{needed_begin}
 
 module _ (lifted : Lifted) (begin : (i t : ℕ) → slice_get lifted.needed i ≡ Some t → op_place (pieces lifted) (first_piece lifted (block_of lifted.begins t)) ≡ t) where
@@ -95,20 +98,37 @@ module _ (lifted : Lifted) (begin : (i t : ℕ) → slice_get lifted.needed i �
   block_is_aimed [] s h = tt
   block_is_aimed (op ∷ ops) s h = aimed_then (op_does lifted.needed op s) (does (op_does lifted.needed) ops) (op_is_aimed op s h.0) (λ s1. block_is_aimed ops s1 h.1)
 
--- what its pieces do is what the block does
-pieces_are_aimed : (lifted : Lifted) (begin : (i t : ℕ) → slice_get lifted.needed i ≡ Some t → op_place (pieces lifted) (first_piece lifted (block_of lifted.begins t)) ≡ t) (ops : List (Operation ℕ)) → IsWellBlock lifted ops
+-- a block of which only the first operation may call the host
+abbrev IsCallingBlock : Lifted → List (Operation ℕ) → Type 0
+IsCallingBlock lifted ops = IsWellBlock lifted ops × CallIsFirst ops
+
+-- the pieces of a block jump where it does
+pieces_are_aimed : (lifted : Lifted) (begin : (i t : ℕ) → slice_get lifted.needed i ≡ Some t → op_place (pieces lifted) (first_piece lifted (block_of lifted.begins t)) ≡ t) (ops : List (Operation ℕ)) → IsCallingBlock lifted ops
     → AllByRecursion (λ (p : Piece (Operation ℕ) Aimed). (s : State) → IsAimed lifted begin (does (op_does lifted.needed) p.ops s)) (block_pieces lifted.needed ops)
-pieces_are_aimed lifted begin ops h = rw (pieces_are lifted.needed ops (one_is_all ops (all_can lifted ops h.each) h.some)) ((λ s. block_is_aimed lifted begin ops s h.each), tt)
+pieces_are_aimed lifted begin [] h = absurd (omega (arith, h.0.some))
+pieces_are_aimed lifted begin (op ∷ ops) h = by_first (is_call op) ops refl h.0.each h.1
+  where
+    by_first : (b : Bool) (ops : List (Operation ℕ)) → is_call op ≡ b → AllByRecursion (IsWell lifted) (op ∷ ops) → CallIsFirst (op ∷ ops) → AllByRecursion (λ (p : Piece (Operation ℕ) Aimed). (s : State) → IsAimed lifted begin (does (op_does lifted.needed) p.ops s)) (block_pieces lifted.needed (op ∷ ops))
+    by_first false ops call each first = rw (pieces_are lifted.needed (op ∷ ops) (call, first.0) (omega arith)) ((λ s. block_is_aimed lifted begin (op ∷ ops) s each), tt)
+    by_first true [] call each first = absurd (omega (arith, first.1 call))
+    by_first true (next ∷ ops) call each first = rw (call_pieces lifted.needed op next ops call first.0) ((λ s. block_is_aimed lifted begin (op ∷ []) s (each.0, tt)), ((λ s. block_is_aimed lifted begin (next ∷ ops) s each.1), tt))
+
+both : {A : Type 0} (P Q : A → Type 0) (xs : List A) → AllByRecursion P xs → AllByRecursion Q xs → AllByRecursion (λ x. P x × Q x) xs
+both P Q [] f g = tt
+both P Q (x ∷ xs) f g = ((f.0, g.0), both P Q xs f.1 g.1)
 
 -- the pieces are a cut
-pub lowered_is_cut : LoweredIsCut
-lowered_is_cut given lifted h calls = record {
+pub lowered_is_cut : CallsBeginBlocks → LoweredIsCut
+lowered_is_cut law given lifted h = record {
   carries = λ k p e. all_at (Carries (op_does lifted.needed) (instr_does lifted.needed) IsState) (pieces lifted) k p carried e;
   aims = λ k p e s g. all_at (λ (p : Piece (Operation ℕ) Aimed). (s : State) → IsAimed lifted (needed_begin given lifted h) (does (op_does lifted.needed) p.ops s)) (pieces lifted) k p aimed e s;
 }
   where
+    all : AllByRecursion (IsCallingBlock lifted) (blocks lifted.begins lifted.ops)
+    all = both (IsWellBlock lifted) CallIsFirst (blocks lifted.begins lifted.ops) (blocks_are_well given lifted h) (calls_are_first law given lifted h)
+
     carried : AllByRecursion (Carries (op_does lifted.needed) (instr_does lifted.needed) IsState) (pieces lifted)
-    carried = all_joined _ (block_pieces lifted.needed) (IsWellBlock lifted) (blocks lifted.begins lifted.ops) (λ ops b. blocks_are_carried lifted.needed ops (all_can lifted ops b.each) b.front b.some) (blocks_are_well given lifted h calls)
+    carried = all_joined _ (block_pieces lifted.needed) (IsCallingBlock lifted) (blocks lifted.begins lifted.ops) (λ ops b. blocks_are_carried lifted.needed ops (all_fit lifted ops b.0.each) b.1 b.0.front b.0.some) all
 
     aimed : AllByRecursion (λ (p : Piece (Operation ℕ) Aimed). (s : State) → IsAimed lifted (needed_begin given lifted h) (does (op_does lifted.needed) p.ops s)) (pieces lifted)
-    aimed = all_joined _ (block_pieces lifted.needed) (IsWellBlock lifted) (blocks lifted.begins lifted.ops) (λ ops b. pieces_are_aimed lifted (needed_begin given lifted h) ops b) (blocks_are_well given lifted h calls)
+    aimed = all_joined _ (block_pieces lifted.needed) (IsCallingBlock lifted) (blocks lifted.begins lifted.ops) (λ ops b. pieces_are_aimed lifted (needed_begin given lifted h) ops b) all

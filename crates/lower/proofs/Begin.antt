@@ -33,7 +33,7 @@ length-starts given ended [] = refl
 length-starts given ended (p ∷ ps) = ap suc (length-starts given (ends_at (operation_at given p)) ps)
 
 -- a mark for each operation
-marks_count : (given : Given) (lifted : Lifted) → IsLifted given lifted → length lifted.begins ≡ length lifted.ops
+pub marks_count : (given : Given) (lifted : Lifted) → IsLifted given lifted → length lifted.begins ≡ length lifted.ops
 marks_count given lifted h = ap length h.begins_are ∙ length-starts given true lifted.places ∙ sym h.count
 
 -- the blocks together are the operations

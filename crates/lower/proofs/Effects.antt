@@ -42,13 +42,13 @@ operand_fits op imm h = word_fits imm (operand_is_signed op imm h)
 -- a register that is written twice keeps the second value, which may depend on the first
 twice : (s : State) (d x : ℕ) (f : ℕ → ℕ) → IsState s → d < 13 → ◌≡◌ {A = Outcome ℕ State End} (Next (with_register (with_register s d x) d (f (register (with_register s d x) d)))) (Next (with_register s d (f x)))
 twice s d x f g small =
-    let there = get_or-set_same s.registers d x 0 (omega (arith, g.count)) in
+    let there = get_or-set_same s.registers d x 0 (omega (arith, g.registers.count)) in
     rw (there, set-set s.registers d x (f x)) refl
 
 thrice : (s : State) (d x : ℕ) (f h : ℕ → ℕ) → IsState s → d < 13 → ◌≡◌ {A = Outcome ℕ State End} (Next (with_register (with_register (with_register s d x) d (f (register (with_register s d x) d))) d (h (register (with_register (with_register s d x) d (f (register (with_register s d x) d))) d)))) (Next (with_register s d (h (f x))))
 thrice s d x f h g small =
-    let there = get_or-set_same s.registers d x 0 (omega (arith, g.count)) in
-    let again = get_or-set_same s.registers d (f x) 0 (omega (arith, g.count)) in
+    let there = get_or-set_same s.registers d x 0 (omega (arith, g.registers.count)) in
+    let again = get_or-set_same s.registers d (f x) 0 (omega (arith, g.registers.count)) in
     rw (there, set-set s.registers d x (f x), again, set-set s.registers d (f x) (h (f x))) refl
 
 module _ (needed : List ℕ) where

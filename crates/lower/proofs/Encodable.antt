@@ -28,7 +28,7 @@ use Rattle.pvm_ops.specs.Fetch.{trap}
 use Rattle.pvm_ops.specs.Spelling.{IsShort}
 use Rattle.jump_table.specs.Laws.{IsPlainInstr}
 use Rattle.lift_blocks.specs.Fits.{IsOperand}
-use Rattle.lower.specs.Instructions.{rx, rr, rrx, rrr, xy, rxy, fallthrough, jump_ind, load_imm, move_reg, add_imm_32, set_lt_u_imm, neg_add_imm_64}
+use Rattle.lower.specs.Instructions.{rx, rr, rrx, rrr, xy, rxy, ecalli, sbrk, fallthrough, jump_ind, load_imm, move_reg, add_imm_32, set_lt_u_imm, neg_add_imm_64}
 use Rattle.lower.specs.Plain.{alu_imm_opcode, alu_opcode, load_opcode, load_ind_opcode, store_opcode, store_ind_opcode, store_imm_opcode, store_imm_ind_opcode, with_second_zero, with_first_zero, lower_plain, IsLowerable}
 use Rattle.lower.proofs.Immediates.{wider, word_fits, operand_is_signed}
 use Rattle.lower.proofs.Rows.{sum_zero_l, zero_shlo_l, zero_shlo_r, zero_shar_r, zero_shlo_l_32, zero_shlo_r_32, zero_shar_r_32}
@@ -37,6 +37,10 @@ use Rattle.lower.proofs.Rows.{sum_zero_l, zero_shlo_l, zero_shlo_r, zero_shar_r,
 pub short : (imm : ℤ) → IsSigned 32 imm → IsShort (word_of imm)
 short (pos n) h = grind (arith, nat_tests)
 short (negsuc n) h = grind (arith, nat_tests)
+
+-- so is a number below 2^31
+pub small_is_short : (x : ℕ) → x < 2 ^ 31 → IsShort x
+small_is_short x h = grind (arith, nat_tests)
 
 -- so is a truth, and what was extended
 truth_is_short : (b : Bool) → IsShort (truth b)
@@ -112,6 +116,14 @@ fallthrough_is_plain = record {
   no_offset = rw opcode.fallthrough_form refl;
 }
 
+-- so can a call of the host
+pub ecalli_is_plain : (number : ℕ) → IsShort number → IsPlainInstr (ecalli number)
+ecalli_is_plain number h = record {
+  known = opcode.ecalli_known;
+  encodable = record { a = omega arith; b = omega arith; d = omega arith; offset = omega arith; unused = rw opcode.ecalli_form refl; fit = rw opcode.ecalli_form h };
+  no_offset = rw opcode.ecalli_form refl;
+}
+
 -- so can an instruction of a form without an offset
 pub rx_is_plain : (op a x : ℕ) → IsTrue (is_known op) → form_of op ≡ RX → a < 13 → IsShort x → IsPlainInstr (rx op a x)
 rx_is_plain op a x known is small h = record {
@@ -161,6 +173,9 @@ jump_ind_is_plain a imm small h = rx_is_plain 50 a (word_of imm) opcode.jump_ind
 
 pub load_imm_is_plain : (a x : ℕ) → a < 13 → IsShort x → IsPlainInstr (load_imm a x)
 load_imm_is_plain a x small h = rx_is_plain 51 a x opcode.load_imm_known opcode.load_imm_form small h
+
+pub sbrk_is_plain : (d a : ℕ) → d < 13 → a < 13 → IsPlainInstr (sbrk d a)
+sbrk_is_plain d a p q = rr_is_plain 101 d a opcode.sbrk_known opcode.sbrk_form p q
 
 move_reg_is_plain : (d a : ℕ) → d < 13 → a < 13 → IsPlainInstr (move_reg d a)
 move_reg_is_plain d a p q = rr_is_plain 100 d a opcode.move_reg_known opcode.move_reg_form p q

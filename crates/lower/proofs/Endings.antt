@@ -28,11 +28,7 @@ use Rattle.lower.specs.Instructions.{rro, rxo, jump, load_imm_jump, fallthrough,
 use Rattle.lower.specs.Lowering.{branch_opcode, branch_zero_opcode, zero_branch_opcode, jump_if, jump_with, jump_to, jump_by_register, clears_if, lower_op, target_if, aim_of}
 use Rattle.lift_blocks.specs.Fits.{IsLink}
 use Rattle.lower.specs.Laws.{IsEnding, EndingsArePlaceable}
-use Rattle.lower.proofs.Encodable.{short, trap_is_plain, fallthrough_is_plain, rx_is_plain, load_imm_is_plain}
-
--- a number below 2^31 is the sign extension of its low 32 bits
-small_is_short : (x : ℕ) → x < 2 ^ 31 → IsShort x
-small_is_short x h = grind (arith, nat_tests)
+use Rattle.lower.proofs.Encodable.{short, small_is_short, trap_is_plain, fallthrough_is_plain, rx_is_plain, load_imm_is_plain}
 
 of_plain : (i : Instr) → IsPlainInstr i → IsPlaceable i
 of_plain i h = record { known = h.known; encodable = h.encodable }
@@ -165,5 +161,5 @@ endings_are_placeable needed (Jal rd link target) h e = one_last needed (Jal rd 
 endings_are_placeable needed (Jalr rd Zero imm link) h e = one_last needed (Jalr rd Zero imm link) (jump_to (named needed (word_of imm % 2 ^ 32)) rd link) refl (jump_to_last (named needed (word_of imm % 2 ^ 32)) rd link h.0 h.2)
 endings_are_placeable needed (Jalr rd (R a) imm link) h e = one_last needed (Jalr rd (R a) imm link) (jump_by_register rd a (word_of imm) link) refl (register_last rd a imm link h.0 h.1 h.2 h.3)
 endings_are_placeable needed (Pair temp rd link target) h e = pair_last needed temp rd link target h.0 h.1 h.2
-endings_are_placeable needed (HostCall number) h e = absurd h
-endings_are_placeable needed Sbrk h e = absurd h
+endings_are_placeable needed (HostCall number) h e = absurd cc
+endings_are_placeable needed Sbrk h e = absurd cc

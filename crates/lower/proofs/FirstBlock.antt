@@ -5,7 +5,7 @@ use Rattle.std.proofs.lemmas.List.{get_or-drop, drop-drop, length-drop}
 use Rattle.runs.specs.Blocks.{begins_first, in_first, with_first, blocks}
 
 -- whether a block begins with the first mark, or there is none
-begins_is : (bs : List Bool) → begins_first bs ≡ get_or bs 0 true
+pub begins_is : (bs : List Bool) → begins_first bs ≡ get_or bs 0 true
 begins_is [] = refl
 begins_is (b ∷ bs) = refl
 

@@ -10,23 +10,25 @@ use Rattle.rv_decode.specs.declared.ops.Cond.TheVariants.{Eq, Ne, Lt, Ge, Ltu, G
 use Rattle.rv_decode.specs.declared.ops.Reg.{Reg}
 use Rattle.rv_decode.specs.declared.ops.Reg.TheVariants.{Zero, R}
 use Rattle.rv_decode.specs.Operations.{IsSigned}
-use Rattle.runs.specs.Machine.{Outcome, Next, Jump, does}
+use Rattle.runs.specs.Machine.{Outcome, Next, Jump, Call, does}
 use Rattle.runs.specs.Numbers.{halt_address, named, to_named, jump_by}
 use Rattle.runs.specs.Pieces.{NoCall, GoodOutcome}
 use Rattle.machine_state.specs.State.{State, register, with_register, IsState}
 use Rattle.machine_state.specs.Ends.{End, halt, panic}
+use Rattle.machine_state.specs.Heap as heap
 use Rattle.machine_state.proofs.Registers.{registers_stay}
+use Rattle.machine_state.proofs.Heap.{sbrk_is_good}
 use Rattle.lift_blocks.specs.Arithmetic.{of_cond}
 use Rattle.lift_blocks.specs.Operations.{Operation, Plain, Branch, Jal, Jalr, Pair, HostCall, Sbrk}
 use Rattle.lift_blocks.specs.Step.{with_value, op_does}
 use Rattle.pvm_ops.specs.declared.instr.Instr.{Instr}
 use Rattle.pvm_machine.specs.Effect.{effect}
 use Rattle.pvm_machine.proofs.Opcodes as opcode
-use Rattle.lower.specs.Instructions.{rro, rxo}
+use Rattle.lower.specs.Instructions.{rro, rxo, ecalli, sbrk}
 use Rattle.lower.specs.Lowering.{branch_opcode, branch_zero_opcode, zero_branch_opcode, jump_if, jump_with, jump_to, jump_by_register, clears_if, pair, lower_op, target_if, aim_of}
 use Rattle.lower.specs.Cutting.{or_zero, aimed, instr_does}
 use Rattle.lift_blocks.specs.Fits.{IsLink}
-use Rattle.lower.specs.Laws.{AllAreLowered}
+use Rattle.lower.specs.Laws.{AllAreLowered, CallsAreLowered}
 use Rattle.lower.proofs.Single.{and_no_more, LowersOp}
 use Rattle.lower.proofs.Effects.{jump_no_call, jump_stays, lowers_plain}
 
@@ -183,13 +185,29 @@ module _ (needed : List ℕ) where
     stays = λ s g. value_stays (with_value s temp 0) rd link (value_stays s temp 0 g (zero_is_link temp)) small;
   }
 
--- every operation but those of stubs
+  -- sbrk
+  sbrk_does : (s : State) → ◌≡◌ {A = Outcome ℕ State End} (effect needed 0 (sbrk 7 7) s) (Next (heap.sbrk s 7 (register s 7)))
+  unfolding effect
+  sbrk_does s = rw opcode.sbrk refl
+
+  lowers_sbrk : LowersOp needed Sbrk
+  lowers_sbrk = lowers_alone Sbrk (sbrk 7 7) refl (λ s g. sbrk_does s) (λ s. tt) (λ s g. sbrk_is_good s 7 (register s 7) g)
+
+-- every operation but a call of the host
 pub all_are_lowered : AllAreLowered
-all_are_lowered needed (Plain op) h = lowers_plain needed op h
-all_are_lowered needed (Branch cond rs1 rs2 target) h = lowers_branch needed cond rs1 rs2 target
-all_are_lowered needed (Jal rd link target) h = lowers_jal needed rd link target h.1
-all_are_lowered needed (Jalr rd Zero imm link) h = lowers_constant needed rd imm link h.1 h.2
-all_are_lowered needed (Jalr rd (R a) imm link) h = lowers_register needed rd a imm link h.3
-all_are_lowered needed (Pair temp rd link target) h = lowers_pair needed temp rd link target h.2
-all_are_lowered needed (HostCall number) h = absurd h
-all_are_lowered needed Sbrk h = absurd h
+all_are_lowered needed (Plain op) h calls = lowers_plain needed op h
+all_are_lowered needed (Branch cond rs1 rs2 target) h calls = lowers_branch needed cond rs1 rs2 target
+all_are_lowered needed (Jal rd link target) h calls = lowers_jal needed rd link target h.1
+all_are_lowered needed (Jalr rd Zero imm link) h calls = lowers_constant needed rd imm link h.1 h.2
+all_are_lowered needed (Jalr rd (R a) imm link) h calls = lowers_register needed rd a imm link h.3
+all_are_lowered needed (Pair temp rd link target) h calls = lowers_pair needed temp rd link target h.2
+all_are_lowered needed (HostCall number) h calls = absurd cc
+all_are_lowered needed Sbrk h calls = lowers_sbrk needed
+
+-- and a call, which has one instruction
+pub call_does : (needed : List ℕ) (target : Option ℕ) (number : ℕ) (s : State) → ◌≡◌ {A = Outcome ℕ State End} (instr_does needed (record { instr = ecalli number; target = target }) s) (Call number s)
+unfolding effect
+call_does needed target number s = rw opcode.ecalli refl
+
+pub calls_are_lowered : CallsAreLowered
+calls_are_lowered needed number s = and_no_more (instr_does needed (record { instr = ecalli number; target = None }) s) ∙ call_does needed None number s

@@ -15,7 +15,7 @@ pub mod Endings
 pub mod Blocks
 pub mod Fronts
 pub mod Targets
-pub mod Lifted
+pub mod Calls
 pub mod Well
 pub mod Plain
 pub mod Aims

@@ -16,14 +16,14 @@ use Rattle.jump_table.specs.Laws.{IsPlaceable, IsBlock}
 use Rattle.lower.specs.Lowering.{aim_of_last, block_instrs, lower_block, lowered_blocks}
 use Rattle.lower.specs.Laws.{IsPlacedBlock, LoweredIsPlaceable}
 use Rattle.lower.proofs.Lists.{all_at, all_append, from_map}
-use Rattle.lower.proofs.Well.{IsWellBlock, blocks_are_well, all_can, last_stands}
+use Rattle.lower.proofs.Well.{IsWellBlock, blocks_are_well, all_fit, last_stands}
 use Rattle.lower.proofs.Blocks.{blocks_are_placeable}
 use Rattle.lower.proofs.Begin.{blocks_stand}
 
 -- each instruction of the blocks can be placed
 all_placeable : (lifted : Lifted) (ws : List (List (Operation ℕ))) → AllByRecursion (IsWellBlock lifted) ws → AllByRecursion IsPlaceable (joined (map (λ b. b.instrs) (map (lower_block lifted.needed lifted.begins) ws)))
 all_placeable lifted [] h = tt
-all_placeable lifted (w ∷ ws) h = all_append IsPlaceable (block_instrs lifted.needed w) (joined (map (λ b. b.instrs) (map (lower_block lifted.needed lifted.begins) ws))) (blocks_are_placeable lifted.needed lifted.begins w (all_can lifted w h.0.each) h.0.front h.0.some).placeable (all_placeable lifted ws h.1)
+all_placeable lifted (w ∷ ws) h = all_append IsPlaceable (block_instrs lifted.needed w) (joined (map (λ b. b.instrs) (map (lower_block lifted.needed lifted.begins) ws))) (blocks_are_placeable lifted.needed lifted.begins w (all_fit lifted w h.0.each) h.0.front h.0.some).placeable (all_placeable lifted ws h.1)
 
 -- the last of a list is one
 last_same : (f g : List Instr) (a b : Instr) → f ++ a ∷ [] ≡ g ++ b ∷ [] → a ≡ b
@@ -36,7 +36,7 @@ last_same (x ∷ f) (y ∷ g) a b e = last_same f g a b cc
 
 -- the list can be placed, and each block is ended
 pub lowered_is_placeable : LoweredIsPlaceable
-lowered_is_placeable given lifted h calls = (record { instrs = instrs; blocks = each; targets = targets; entries = entries; needed = needed }, ended)
+lowered_is_placeable given lifted h = (record { instrs = instrs; blocks = each; targets = targets; entries = entries; needed = needed }, ended)
   where
     all : List (List (Operation ℕ))
     all = blocks lifted.begins lifted.ops
@@ -45,15 +45,15 @@ lowered_is_placeable given lifted h calls = (record { instrs = instrs; blocks = 
     bs = map (lower_block lifted.needed lifted.begins) (blocks lifted.begins lifted.ops)
 
     instrs : (number : ℕ) (i : Instr) → slice_get (instrs_of (lowered_blocks lifted)) number ≡ Some i → IsPlaceable i
-    instrs number i e = all_at IsPlaceable (instrs_of (lowered_blocks lifted)) number i (all_placeable lifted (blocks lifted.begins lifted.ops) (blocks_are_well given lifted h calls)) e
+    instrs number i e = all_at IsPlaceable (instrs_of (lowered_blocks lifted)) number i (all_placeable lifted (blocks lifted.begins lifted.ops) (blocks_are_well given lifted h)) e
 
     well : (block : ℕ) (b : Block) → slice_get bs block ≡ Some b → (ops : List (Operation ℕ)) × (lower_block lifted.needed lifted.begins ops ≡ b) × IsWellBlock lifted ops
     well block b e =
         let from = from_map (lower_block lifted.needed lifted.begins) all block b e in
-        (from.x, from.is, all_at (IsWellBlock lifted) all block from.x (blocks_are_well given lifted h calls) from.there)
+        (from.x, from.is, all_at (IsWellBlock lifted) all block from.x (blocks_are_well given lifted h) from.there)
 
     own : (ops : List (Operation ℕ)) → IsWellBlock lifted ops → IsPlacedBlock (block_instrs lifted.needed ops) (option_map (block_of lifted.begins) (aim_of_last lifted.needed ops))
-    own ops w = blocks_are_placeable lifted.needed lifted.begins ops (all_can lifted ops w.each) w.front w.some
+    own ops w = blocks_are_placeable lifted.needed lifted.begins ops (all_fit lifted ops w.each) w.front w.some
 
     each : (block : ℕ) (b : Block) → slice_get bs block ≡ Some b → IsBlock b
     each block b e = let there = well block b e in subst (λ b. IsBlock b) there.1 (own there.0 there.2).block

@@ -1,4 +1,4 @@
--- What the blocks of a lifted list have: operations that can be lowered, of which none but the last ends its block, with
+-- What the blocks of a lifted list have: operations that instructions can hold, of which none but the last ends its block, with
 -- targets that begin blocks.
 use Rattle.std.proofs.Common.{◌≡◌, ℕ, zero, suc, ◌%◌, ◌/◌, ◌^◌, ◌<◌, Bool, true, false, List, [], ◌∷◌, length, Some, None}
 use Rattle.std.specs.Prelude.{slice_get, nat_eq, if◌then◌else◌}
@@ -15,15 +15,15 @@ use Rattle.lift_blocks.specs.Operations.{Operation, Plain, Branch, Jal, Jalr, Pa
 use Rattle.lift_blocks.specs.Listed.{Lifted, IsLifted, target_of}
 use Rattle.lower.specs.Lowering.{target_if, aim_of, aim_of_last}
 use Rattle.lower.specs.Cutting.{pieces, first_piece}
-use Rattle.lower.specs.Laws.{CanBeLowered, CallsNoHost, FrontGoesOn}
+use Rattle.lift_blocks.specs.Fits.{FitsInstructions}
+use Rattle.lower.specs.Laws.{FrontGoesOn}
 use Rattle.lower.proofs.Lists.{all_from_places, IsBlockOf, blocks_all}
-use Rattle.lower.proofs.Lifted.{lifted_can_be}
 use Rattle.lower.proofs.Fronts.{fronts_go_on}
 use Rattle.lower.proofs.Targets.{target_begins}
 
 -- an operation of a lifted list
 pub record IsWell (lifted : Lifted) (op : Operation ℕ) : Type 0 where
-  pub can : CanBeLowered op
+  pub fits : FitsInstructions op
   pub begins : (t : ℕ) → target_of op ≡ Some t → op_place (pieces lifted) (first_piece lifted (block_of lifted.begins t)) ≡ t
   pub stands : (t : ℕ) → aim_of lifted.needed op ≡ Some t → t < length lifted.places
 
@@ -53,9 +53,9 @@ aim_stands needed count (Pair temp rd link target) t first second e = first t e
 aim_stands needed count (HostCall number) t first second e = absurd cc
 aim_stands needed count Sbrk t first second e = absurd cc
 
-lifted_is_well : (given : Given) (lifted : Lifted) → IsLifted given lifted → CallsNoHost lifted → (q : ℕ) (op : Operation ℕ) → slice_get lifted.ops q ≡ Some op → IsWell lifted op
-lifted_is_well given lifted h calls q op e = record {
-  can = lifted_can_be given lifted h calls q op e;
+lifted_is_well : (given : Given) (lifted : Lifted) → IsLifted given lifted → (q : ℕ) (op : Operation ℕ) → slice_get lifted.ops q ≡ Some op → IsWell lifted op
+lifted_is_well given lifted h q op e = record {
+  fits = h.ops_fit q op e;
   begins = λ t f. target_begins given lifted h q t op e f;
   stands = λ t f. aim_stands lifted.needed (length lifted.places) op t (λ u g. h.targets_exist q u op e g) h.needed_exist f;
 }
@@ -70,12 +70,12 @@ well_blocks : (lifted : Lifted) (ws : List (List (Operation ℕ))) → AllByRecu
 well_blocks lifted [] h f = tt
 well_blocks lifted (w ∷ ws) h f = (record { each = h.0.0; some = h.0.1; front = f.0 }, well_blocks lifted ws h.1 f.1)
 
-pub blocks_are_well : (given : Given) (lifted : Lifted) → IsLifted given lifted → CallsNoHost lifted → AllByRecursion (IsWellBlock lifted) (blocks lifted.begins lifted.ops)
-blocks_are_well given lifted h calls = well_blocks lifted (blocks lifted.begins lifted.ops) (blocks_all (IsWell lifted) lifted.begins lifted.ops (all_from_places (IsWell lifted) lifted.ops (lifted_is_well given lifted h calls))) (fronts_go_on given lifted h)
+pub blocks_are_well : (given : Given) (lifted : Lifted) → IsLifted given lifted → AllByRecursion (IsWellBlock lifted) (blocks lifted.begins lifted.ops)
+blocks_are_well given lifted h = well_blocks lifted (blocks lifted.begins lifted.ops) (blocks_all (IsWell lifted) lifted.begins lifted.ops (all_from_places (IsWell lifted) lifted.ops (lifted_is_well given lifted h))) (fronts_go_on given lifted h)
 
-pub all_can : (lifted : Lifted) (ops : List (Operation ℕ)) → AllByRecursion (IsWell lifted) ops → AllByRecursion CanBeLowered ops
-all_can lifted [] h = tt
-all_can lifted (op ∷ ops) h = (h.0.can, all_can lifted ops h.1)
+pub all_fit : (lifted : Lifted) (ops : List (Operation ℕ)) → AllByRecursion (IsWell lifted) ops → AllByRecursion FitsInstructions ops
+all_fit lifted [] h = tt
+all_fit lifted (op ∷ ops) h = (h.0.fits, all_fit lifted ops h.1)
 
 -- the target of a block is an operation
 pub last_stands : (lifted : Lifted) (ops : List (Operation ℕ)) (t : ℕ) → AllByRecursion (IsWell lifted) ops → aim_of_last lifted.needed ops ≡ Some t → t < length lifted.places

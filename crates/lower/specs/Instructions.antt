@@ -41,6 +41,13 @@ load_imm_jump a x = rxo 80 a x
 abbrev pub load_imm_jump_ind : ℕ → ℕ → ℕ → ℕ → Instr
 load_imm_jump_ind a b x y = record { op = 180; a = a; b = b; d = 0; x = x; y = y }
 
+-- a call of the host by its number, and sbrk by the size in a register
+abbrev pub ecalli : ℕ → Instr
+ecalli x = record { op = 10; a = 0; b = 0; d = 0; x = x; y = 0 }
+
+abbrev pub sbrk : ℕ → ℕ → Instr
+sbrk d a = rr 101 d a
+
 abbrev pub fallthrough : Instr
 fallthrough = record { op = 1; a = 0; b = 0; d = 0; x = 0; y = 0 }
 

@@ -5,13 +5,13 @@ use Rattle.std.specs.List.{AllByRecursion}
 use Rattle.rv_decode.specs.declared.ops.RvOp.{RvOp}
 use Rattle.rv_decode.specs.declared.ops.RvOp.TheVariants as rv
 use Rattle.rv_decode.specs.Operations.{IsOp}
-use Rattle.runs.specs.Machine.{Outcome, does}
+use Rattle.runs.specs.Machine.{Outcome, Call, does}
 use Rattle.runs.specs.Blocks.{block_of}
 use Rattle.runs.specs.Pieces.{Cut, Carries, Lowers, all_ops, all_instrs, op_place, instr_place}
 use Rattle.machine_state.specs.State.{State, IsState}
 use Rattle.machine_state.specs.Ends.{End}
 use Rattle.symbols.specs.Wanted.{Given}
-use Rattle.lift_blocks.specs.Operations.{Operation, Plain, HostCall, Sbrk}
+use Rattle.lift_blocks.specs.Operations.{Operation, Plain, HostCall}
 use Rattle.lift_blocks.specs.Step.{plain_does, op_does}
 use Rattle.lift_blocks.specs.Listed.{Lifted, IsLifted, ends_block}
 use Rattle.lift_blocks.specs.Fits.{FitsInstructions}
@@ -22,7 +22,7 @@ use Rattle.pvm_ops.specs.declared.instr.Instr.{Instr}
 use Rattle.pvm_ops.specs.BlockList.{Block}
 use Rattle.pvm_machine.specs.Effect.{effect}
 use Rattle.lower.specs.Plain.{IsLowerable}
-use Rattle.lower.specs.Lowering.{lower_op, aim_of, aim_of_last, block_instrs, lowered_blocks}
+use Rattle.lower.specs.Lowering.{lower_op, aim_of, aim_of_last, is_call, block_instrs, lowered_blocks}
 use Rattle.lower.specs.Cutting.{aimed_op, block_pieces, pieces, first_piece, instr_does, instr_places}
 
 -- the operation of a word can be lowered alone, unless it is a jump or a branch
@@ -47,15 +47,14 @@ OperationsAreLowered =
     (needed : List ℕ) (op : RvOp) → IsLowerable op
     → Lowers (op_does needed) (instr_does needed) IsState (aimed_op needed) (Plain op)
 
--- an operation that instructions can hold, and no call of the host
-abbrev pub CanBeLowered : {Target : Type 0} → Operation Target → Type 0
-CanBeLowered (HostCall number) = ⊥
-CanBeLowered Sbrk = ⊥
-CanBeLowered op = FitsInstructions op
-
--- its instructions, with its target, do what it does, are three at most, and keep the state good
+-- The instructions of an operation that is no call of the host, with its target, do what it does, are three at most, and
+-- keep the state good.
 abbrev pub AllAreLowered : Type 0
-AllAreLowered = (needed : List ℕ) (op : Operation ℕ) → CanBeLowered op → Lowers (op_does needed) (instr_does needed) IsState (aimed_op needed) op
+AllAreLowered = (needed : List ℕ) (op : Operation ℕ) → FitsInstructions op → is_call op ≡ false → Lowers (op_does needed) (instr_does needed) IsState (aimed_op needed) op
+
+-- and that of a call makes the same call
+abbrev pub CallsAreLowered : Type 0
+CallsAreLowered = (needed : List ℕ) (number : ℕ) (s : State) → does (instr_does needed) (aimed_op needed (HostCall number)) s ≡ Call number s
 
 -- The instructions of an operation that ends its block: the last ends it, with an offset where the operation has a target.
 pub record IsEnding (needed : List ℕ) (op : Operation ℕ) : Type 0 where
@@ -64,7 +63,7 @@ pub record IsEnding (needed : List ℕ) (op : Operation ℕ) : Type 0 where
   pub terminator : is_terminator block.last.op ≡ true
 
 abbrev pub EndingsArePlaceable : Type 0
-EndingsArePlaceable = (needed : List ℕ) (op : Operation ℕ) → CanBeLowered op → ends_block op ≡ true → IsEnding needed op
+EndingsArePlaceable = (needed : List ℕ) (op : Operation ℕ) → FitsInstructions op → ends_block op ≡ true → IsEnding needed op
 
 -- none but the last operation of a block ends it
 abbrev pub FrontGoesOn : List (Operation ℕ) → Type 0
@@ -72,10 +71,16 @@ FrontGoesOn [] = Unit {0}
 FrontGoesOn (op ∷ []) = Unit {0}
 FrontGoesOn (op ∷ next ∷ ops) = (ends_block op ≡ false) × FrontGoesOn (next ∷ ops)
 
--- a block of such operations is carried out by its instructions, also where it ends with a branch or a jump
+-- only the first operation of a block may call the host, where another is behind it
+abbrev pub CallIsFirst : List (Operation ℕ) → Type 0
+CallIsFirst [] = Unit {0}
+CallIsFirst (op ∷ ops) = AllByRecursion (λ x. is_call x ≡ false) ops × (is_call op ≡ true → 0 < length ops)
+
+-- A block of operations is carried out by its instructions, also where it ends with a branch or a jump, and where it begins
+-- with a call of the host.
 abbrev pub BlocksAreCarried : Type 0
 BlocksAreCarried =
-    (needed : List ℕ) (ops : List (Operation ℕ)) → AllByRecursion CanBeLowered ops → FrontGoesOn ops → 0 < length ops
+    (needed : List ℕ) (ops : List (Operation ℕ)) → AllByRecursion FitsInstructions ops → CallIsFirst ops → FrontGoesOn ops → 0 < length ops
     → AllByRecursion (Carries (op_does needed) (instr_does needed) IsState) (block_pieces needed ops)
 
 -- a block that can be placed, whose last instruction ends it
@@ -87,23 +92,13 @@ pub record IsPlacedBlock (instrs : List Instr) (target : Option ℕ) : Type 0 wh
 -- and so can its instructions be placed
 abbrev pub BlocksArePlaceable : Type 0
 BlocksArePlaceable =
-    (needed : List ℕ) (begins : List Bool) (ops : List (Operation ℕ)) → AllByRecursion CanBeLowered ops → FrontGoesOn ops → 0 < length ops
+    (needed : List ℕ) (begins : List Bool) (ops : List (Operation ℕ)) → AllByRecursion FitsInstructions ops → FrontGoesOn ops → 0 < length ops
     → IsPlacedBlock (block_instrs needed ops) (option_map (block_of begins) (aim_of_last needed ops))
-
--- the call that an import stands for
-abbrev pub is_import_call : {Target : Type 0} → Operation Target → Bool
-is_import_call (HostCall number) = true
-is_import_call Sbrk = true
-is_import_call op = false
-
--- none of the operations is such a call: their lowering is not supported yet
-abbrev pub CallsNoHost : Lifted → Type 0
-CallsNoHost lifted = (q : ℕ) (op : Operation ℕ) → slice_get lifted.ops q ≡ Some op → is_import_call op ≡ false
 
 -- Each block's instructions do what its operations do, at most four begun for each, and jumps lead to blocks.
 abbrev pub LoweredIsCut : Type 0
 LoweredIsCut =
-    (given : Given) (lifted : Lifted) → IsLifted given lifted → CallsNoHost lifted
+    (given : Given) (lifted : Lifted) → IsLifted given lifted
     → Cut (op_does lifted.needed) (instr_does lifted.needed) IsState (pieces lifted) (λ t. t) (instr_places lifted)
 
 -- the blocks together are the operations in code order
@@ -135,4 +130,4 @@ SamePlaces = (lifted : Lifted) (block : ℕ) → instr_place (pieces lifted) (fi
 
 -- the list of blocks can be placed, and each block's last instruction ends it
 abbrev pub LoweredIsPlaceable : Type 0
-LoweredIsPlaceable = (given : Given) (lifted : Lifted) → IsLifted given lifted → CallsNoHost lifted → IsAssemblable (lowered_blocks lifted) × AreEnded (lowered_blocks lifted)
+LoweredIsPlaceable = (given : Given) (lifted : Lifted) → IsLifted given lifted → IsAssemblable (lowered_blocks lifted) × AreEnded (lowered_blocks lifted)

@@ -18,7 +18,7 @@ use Rattle.lift_blocks.specs.Listed.{Lifted, ends_block}
 use Rattle.pvm_ops.specs.declared.instr.Instr.{Instr}
 use Rattle.pvm_ops.specs.BlockList.{Block, BlockList}
 use Rattle.pvm_ops.specs.Fetch.{trap}
-use Rattle.lower.specs.Instructions.{rro, rxo, jump, load_imm_jump, load_imm_jump_ind, fallthrough, jump_ind, load_imm}
+use Rattle.lower.specs.Instructions.{rro, rxo, jump, load_imm_jump, load_imm_jump_ind, ecalli, sbrk, fallthrough, jump_ind, load_imm}
 use Rattle.lower.specs.Plain.{lower_plain}
 
 -- the opcode of a branch on two registers
@@ -84,7 +84,6 @@ pair (R t) Zero link = load_imm_jump t 0 ∷ []
 pair (R t) (R d) link = clears_if (nat_eq t d) t d link
 
 -- The instructions of an operation, with 0 for an offset, by the needed places, which the address map's numbers name.
--- Those of a host call and of sbrk come with their stubs.
 abbrev pub lower_op : List ℕ → Operation ℕ → List Instr
 lower_op needed (Plain op) = lower_plain op
 lower_op needed (Branch cond rs1 rs2 target) = branch cond rs1 rs2 ∷ []
@@ -92,8 +91,8 @@ lower_op needed (Jal rd link target) = jump_with rd link ∷ []
 lower_op needed (Jalr rd Zero imm link) = jump_to (named needed (word_of imm % 2 ^ 32)) rd link ∷ []
 lower_op needed (Jalr rd (R a) imm link) = jump_by_register rd a (word_of imm) link ∷ []
 lower_op needed (Pair temp rd link target) = pair temp rd link
-lower_op needed (HostCall number) = []
-lower_op needed Sbrk = []
+lower_op needed (HostCall number) = ecalli number ∷ []
+lower_op needed Sbrk = sbrk 7 7 ∷ []
 
 -- what stands behind an operation that ends its block, or doesn't
 abbrev pub tail_if : Bool → List Instr

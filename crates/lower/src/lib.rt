@@ -4,7 +4,7 @@
 //! Each operation is lowered by itself.
 #![tactic(auto)]
 
-ghost use Rattle.lower.specs.Laws.{WordsAreLowerable, OperationsAreLowered, AllAreLowered, EndingsArePlaceable, BlocksAreCarried, BlocksArePlaceable, LoweredIsCut, BlocksAreAll, EntriesBegin, BlocksStand, SameInstrs, SamePlaces, LoweredIsPlaceable};
+ghost use Rattle.lower.specs.Laws.{WordsAreLowerable, OperationsAreLowered, AllAreLowered, CallsAreLowered, EndingsArePlaceable, BlocksAreCarried, BlocksArePlaceable, LoweredIsCut, BlocksAreAll, EntriesBegin, BlocksStand, SameInstrs, SamePlaces, LoweredIsPlaceable};
 
 mod block;
 mod forms;
@@ -14,15 +14,18 @@ mod tables;
 mod transfers;
 
 pub use forms::Three;
+use lift_blocks::calls_begin_blocks;
 pub use operations::lower_operation;
 pub use program::lower;
 
 /// A word's operation can be lowered by itself, unless it is a jump or a branch, and the instructions of such an
-/// operation do what it does. So do those of jumps and branches, which can be placed with their offsets.
+/// operation do what it does. So do those of jumps and branches, which can be placed with their offsets, and of calls of the
+/// host.
 pub fn operations_are_carried_out()
     ensures words { WordsAreLowerable }
     ensures effects { OperationsAreLowered }
     ensures jumps { AllAreLowered }
+    ensures calls { CallsAreLowered }
     ensures endings { EndingsArePlaceable }
     ensures carried { BlocksAreCarried }
     ensures placeable { BlocksArePlaceable }
@@ -38,7 +41,9 @@ pub fn blocks_are_carried_out()
     ensures instrs { SameInstrs }
     ensures places { SamePlaces }
     ensures placeable { LoweredIsPlaceable }
-{}
+{
+    calls_begin_blocks();
+}
 
 #[cfg(test)]
 mod tests;

@@ -8,11 +8,11 @@ ghost use Rattle.lift_blocks.specs.Arithmetic.{of_cond};
 ghost use Rattle.lift_blocks.specs.Fits.{FitsInstructions};
 ghost use Rattle.lift_blocks.specs.Kept.{operation_of};
 ghost use Rattle.lift_blocks.specs.Listed.{ends_block as does_end, target_of};
-ghost use Rattle.lower.specs.Instructions.{fallthrough as is_fallthrough, jump as is_jump, jump_ind, load_imm_jump, load_imm_jump_ind};
+ghost use Rattle.lower.specs.Instructions.{ecalli, fallthrough as is_fallthrough, jump as is_jump, jump_ind, load_imm_jump, load_imm_jump_ind};
 ghost use Rattle.lower.specs.Lowering.{aim_of, branch as is_branch, jump_by_register, jump_to, jump_with, lower_op, pair as is_pair};
 ghost use Rattle.lower.specs.Plain.{listed};
 
-use crate::forms::{Three, none, one, rrx, rx, trap, two};
+use crate::forms::{Three, one, rr, rrx, rx, trap, two};
 use crate::operations::{load_imm, lower_operation, word};
 use crate::tables::{branch_opcode, branch_zero_opcode, zero_branch_opcode};
 use lift_blocks::{Lifted, SourceOp};
@@ -21,15 +21,22 @@ use rv_decode::{Cond, Reg, RvOp};
 
 const FALLTHROUGH: u8 = 1;
 
+const ECALLI: u8 = 10;
+
 const JUMP: u8 = 40;
 
 const JUMP_IND: u8 = 50;
 
 const LOAD_IMM_JUMP: u8 = 80;
 
+const SBRK: u8 = 101;
+
 const LOAD_IMM_JUMP_IND: u8 = 180;
 
-/// The instructions of an operation, with 0 for an offset. A call of the host has none.
+/// The register a0, in which an import takes a size and leaves an address.
+const SIZE: u8 = 7;
+
+/// The instructions of an operation, with 0 for an offset.
 pub(crate) fn instructions(lifted: &Lifted, op: &SourceOp) -> Three
     requires { FitsInstructions (operation_of op.now) }
     ensures { listed result ≡ lower_op lifted.now.needed (operation_of op.now) }
@@ -40,7 +47,8 @@ pub(crate) fn instructions(lifted: &Lifted, op: &SourceOp) -> Three
         SourceOp::Jal { rd, link, .. } => one(jump_with(rd, link)),
         SourceOp::Jalr { rd, rs1, imm, link } => one(register_jump(lifted, rd, rs1, imm, link)),
         SourceOp::Pair { temp, rd, link, .. } => pair(temp, rd, link),
-        SourceOp::Host(_) | SourceOp::Sbrk => none(),
+        SourceOp::Host(number) => one(ecalli(number)),
+        SourceOp::Sbrk => one(rr(SBRK, SIZE, SIZE)),
     }
 }
 
@@ -94,6 +102,19 @@ pub(crate) fn fallthrough() -> Instr
         b: 0,
         d: 0,
         x: 0,
+        y: 0,
+    }
+}
+
+fn ecalli(number: u32) -> Instr
+    ensures { result ≡ ecalli number }
+{
+    Instr {
+        op: ECALLI,
+        a: 0,
+        b: 0,
+        d: 0,
+        x: u64::from(number),
         y: 0,
     }
 }

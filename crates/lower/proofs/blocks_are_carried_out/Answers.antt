@@ -5,7 +5,7 @@ use Rattle.lower.proofs.Begin.{blocks_are_all, entries_begin, blocks_stand}
 use Rattle.lower.proofs.Aims.{lowered_is_cut}
 
 pub returns-clause-cut : goal.returns-clause-cut
-returns-clause-cut c = lowered_is_cut
+returns-clause-cut c = lowered_is_cut c.calls_begin_blocks.ensures
 
 pub returns-clause-all : goal.returns-clause-all
 returns-clause-all c = blocks_are_all

@@ -1,7 +1,7 @@
 use Rattle.lower.proofs.operations_are_carried_out.Goals as goal
 use Rattle.lower.proofs.Immediates.{words_are_lowerable}
 use Rattle.lower.proofs.Alone.{operations_are_lowered}
-use Rattle.lower.proofs.Jumps.{all_are_lowered}
+use Rattle.lower.proofs.Jumps.{all_are_lowered, calls_are_lowered}
 use Rattle.lower.proofs.Blocks.{blocks_are_carried, blocks_are_placeable}
 use Rattle.lower.proofs.Endings.{endings_are_placeable}
 
@@ -13,6 +13,9 @@ returns-clause-effects c = operations_are_lowered
 
 pub returns-clause-jumps : goal.returns-clause-jumps
 returns-clause-jumps c = all_are_lowered
+
+pub returns-clause-calls : goal.returns-clause-calls
+returns-clause-calls c = calls_are_lowered
 
 pub returns-clause-endings : goal.returns-clause-endings
 returns-clause-endings c = endings_are_placeable
