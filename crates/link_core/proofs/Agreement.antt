@@ -19,13 +19,12 @@ use Rattle.machine_state.specs.State.{State, IsState}
 use Rattle.machine_state.specs.Ends.{Host, rules}
 use Rattle.machine_state.specs.Hosts.{Bounds, bounds_of, IsWorld, AnswersWell}
 use Rattle.machine_state.proofs.Hosts.{turns_are_good}
-use Rattle.machine_state.specs.Start.{start_state}
+use Rattle.machine_state.specs.Start.{IsImage, start_state}
 use Rattle.machine_state.specs.Laws.{StartIsGood}
 use Rattle.symbols.specs.Wanted.{Given}
 use Rattle.relocs.specs.AddressMap.{needed_places}
 use Rattle.lift_blocks.specs.Listed.{Lifted, IsLifted, place, or_nowhere, entry_places}
 use Rattle.std.proofs.lemmas.List.FromFn.{length-map-range_with_len}
-use Rattle.link_core.proofs.NoCalls.{no_calls}
 use Rattle.lift_blocks.specs.Step.{op_does, fetch_op}
 use Rattle.lift_blocks.specs.Laws.{SourceLock, BoundsStay}
 use Rattle.pvm_ops.specs.Listing.{Listing, is_marked}
@@ -38,7 +37,7 @@ use Rattle.jump_table.specs.Assembly.{entry_len, jump, offset, instr_position, s
 use Rattle.jump_table.specs.Laws.{IsAssemblable, AreEnded, AreLengths, IsPlaced, CodeIsPlaced, FoursAreWide}
 use Rattle.lower.specs.Lowering.{lowered_blocks}
 use Rattle.lower.specs.Cutting.{pieces, first_piece, instr_does, instr_places}
-use Rattle.lower.specs.Laws.{LoweredIsCut, BlocksAreAll, EntriesBegin, BlocksStand, SameInstrs, SamePlaces, LoweredIsPlaceable, CallsNoHost}
+use Rattle.lower.specs.Laws.{LoweredIsCut, BlocksAreAll, EntriesBegin, BlocksStand, SameInstrs, SamePlaces, LoweredIsPlaceable}
 use Rattle.link_core.specs.Hosts.{start_host, answers, HostFits}
 use Rattle.link_core.specs.Runs.{source_run, machine_run, image_of}
 use Rattle.link_core.specs.Agrees.{Agrees}
@@ -64,7 +63,7 @@ start_within code at e = marked_within code at (first_true _ _ (first_true _ _ e
 
 module _ (source_lock : SourceLock) (bounds_stay : BoundsStay) (cut : LoweredIsCut) (blocks_are_all : BlocksAreAll) (entries_begin : EntriesBegin) (blocks_stand : BlocksStand) (same_instrs : SameInstrs)
     (same_places : SamePlaces) (is_placeable : LoweredIsPlaceable) (is_placed : CodeIsPlaced) (fours_are_wide : FoursAreWide) (renamed : EffectIsRenamed) (no_target : EffectIsPlain) (named : EffectIsNamed) (of_target : EffectIsOfTarget) (to_target : EffectIsAimed) (start_is_good : StartIsGood) where
-  module _ (given : Given) (lengths : List ℕ) (lifted : Lifted) (is_lifted : IsLifted given lifted) (calls : CallsNoHost lifted) (lengths_are : AreLengths (lowered_blocks lifted) lengths) (small : length (code_of lengths (lowered_blocks lifted)).bytes < 2 ^ 31) where
+  module _ (given : Given) (lengths : List ℕ) (lifted : Lifted) (is_lifted : IsLifted given lifted) (image : IsImage (image_of given)) (lengths_are : AreLengths (lowered_blocks lifted) lengths) (small : length (code_of lengths (lowered_blocks lifted)).bytes < 2 ^ 31) where
     abbrev list : BlockList
     list = lowered_blocks lifted
 
@@ -72,10 +71,10 @@ module _ (source_lock : SourceLock) (bounds_stay : BoundsStay) (cut : LoweredIsC
     code = code_of lengths list
 
     assemblable : IsAssemblable list
-    assemblable = (is_placeable given lifted is_lifted calls).0
+    assemblable = (is_placeable given lifted is_lifted).0
 
     ended : AreEnded list
-    ended = (is_placeable given lifted is_lifted calls).1
+    ended = (is_placeable given lifted is_lifted).1
 
     placed : IsPlaced lengths list code
     placed = is_placed lengths list assemblable (fours_are_wide lengths list lengths_are small) small
@@ -102,7 +101,7 @@ module _ (source_lock : SourceLock) (bounds_stay : BoundsStay) (cut : LoweredIsC
     ops_laid = subst (λ ops. Laid (op_does lifted.needed) (op_does (needed_places given)) ops (λ t. t) (place lifted.places) (fetch_op given)) (sym (blocks_are_all given lifted is_lifted)) (source_lock given lifted is_lifted)
 
     is_cut : Cut (op_does lifted.needed) (instr_does lifted.needed) IsState (pieces lifted) (λ t. t) (instr_places lifted)
-    is_cut = cut given lifted is_lifted calls
+    is_cut = cut given lifted is_lifted
 
     back : (at to : ℕ) → at < 2 ^ 31 → to < 2 ^ 31 → sum_64 at (offset at to) ≡ to
     back at to a b = omega arith
@@ -138,7 +137,7 @@ module _ (source_lock : SourceLock) (bounds_stay : BoundsStay) (cut : LoweredIsC
           → Agree (source_run host held given entry argument) (machine_run host held (container_of given lengths lifted) entry argument)
       agrees_from held entry t argument begins e few =
           let d : World State Held = record { state = start_state (image_of given) argument; held = held } in
-          let good : IsWorld fits d = record { good_state = start_is_good (image_of given) argument few; held_fits = begins } in
+          let good : IsWorld fits d = record { good_state = start_is_good (image_of given) argument image few; held_fits = begins } in
           let k = first_piece lifted (block_of lifted.begins t) in
           let here : place (entry_places given) entry ≡ place lifted.places t = ap (λ l. place l entry) (sym is_lifted.entries_are) ∙ ap or_nowhere (slice_get-map (place lifted.places) lifted.entries entry ∙ ap (option_map (place lifted.places)) e) in
           let there : place lifted.places (op_place (pieces lifted) k) ≡ place (entry_places given) entry = ap (place lifted.places) (entries_begin given lifted is_lifted entry t e) ∙ sym here in
@@ -158,6 +157,7 @@ module _ (source_lock : SourceLock) (bounds_stay : BoundsStay) (cut : LoweredIsC
 
   -- the law of the link
   pub linked_agrees : LinkedAgrees
-  linked_agrees given c supported linked =
+  linked_agrees given c linked =
+      let image : IsImage (image_of given) = (let f = rw linked.container_is at linked.fits in record { read_only = f.read_only; writable = f.writable; zero_pages = f.zero_pages; stack = f.stack }) in
       let small : length (code_of linked.lengths (lowered_blocks linked.lifted)).bytes < 2 ^ 31 = (let h = rw linked.container_is at linked.small in omega arith) in
-      rw linked.container_is (agrees_all given linked.lengths linked.lifted linked.is_lifted (no_calls given supported linked.lifted linked.is_lifted) linked.lengths_are small)
+      rw linked.container_is (agrees_all given linked.lengths linked.lifted linked.is_lifted image linked.lengths_are small)

@@ -34,7 +34,6 @@ use Rattle.link_core.specs.Linked.{Linked, IsLinked, HoldsLinked, program_of, co
 use Rattle.link_core.specs.Laws.{LinkedAgrees}
 use Rattle.link_core.specs.MapText.{map_text, entry_lines, data_lines, got_line, code_lines}
 use Rattle.layout.specs.Addresses.{got_of}
-use Rattle.link_core.specs.Unsupported.{unsupported_faults}
 
 -- ---- the data
 
@@ -215,12 +214,12 @@ module _ (given : Given) (lifted : Lifted) (lifts : Lifts given lifted) (images 
   entries_are [] all = refl
   entries_are (block ∷ entries) all = rw (a.starts.each block (all 0 block refl)) (ap (λ l. start_of a.lengths (lowered_blocks lifted) block ∷ l) (entries_are entries (λ entry b e. all (suc entry) b e)))
 
-  pub holds : LinkedAgrees → ImagesHaveLengths → unsupported_faults given ≡ [] → length lifted.map ≤ 2 ^ 28 → layout_faults given ≡ [] → given.wanted.stack < 2 ^ 24
+  pub holds : LinkedAgrees → ImagesHaveLengths → length lifted.map ≤ 2 ^ 28 → layout_faults given ≡ [] → given.wanted.stack < 2 ^ 24
       → ((entry block : ℕ) → slice_get (lowered_blocks lifted).entries entry ≡ Some block → block < length (lowered_blocks lifted).blocks)
       → (linked : Linked) → linked.container ≡ container_bytes (container_with given images assembled) → linked.map ≡ lifted.map
       → linked.text ≡ entry_lines 0 given.wanted.entries (map (λ block. slice_index assembled.starts block) (lowered_blocks lifted).entries) ++ data_lines given ++ got_line (got_of given) ++ code_lines given 0 lifted.map assembled.table
       → HoldsLinked given linked
-  holds agrees images_have_lengths supported few laid stack begin linked bytes map_is text =
+  holds agrees images_have_lengths few laid stack begin linked bytes map_is text =
       let container = container_of given a.lengths lifted in
       let fits : IsContainer container = subst IsContainer (container_is given lifted images assembled are a) (spelled_is images_have_lengths few laid stack) in
       let linked_is : IsLinked given container = record { lifted = lifted; is_lifted = lifts.is; lengths = a.lengths; lengths_are = a.are_lengths; container_is = refl; fits = fits; small = small } in
@@ -228,7 +227,7 @@ module _ (given : Given) (lifted : Lifted) (lifts : Lifts given lifted) (images 
         container = container;
         spelled = bytes ∙ ap container_bytes (container_is given lifted images assembled are a);
         is_linked = linked_is;
-        agrees = agrees given container supported linked_is;
+        agrees = agrees given container linked_is;
         map_is = map_is ∙ lifts.is.map_is;
         text_is = text ∙ ap (λ ps. entry_lines 0 given.wanted.entries ps ++ data_lines given ++ got_line (got_of given) ++ code_lines given 0 lifted.map assembled.table) (entries_are (lowered_blocks lifted).entries begin)
             ∙ ap (λ t. entry_lines 0 given.wanted.entries (map (start_of a.lengths (lowered_blocks lifted)) (lowered_blocks lifted).entries) ++ data_lines given ++ got_line (got_of given) ++ code_lines given 0 lifted.map t) a.table;

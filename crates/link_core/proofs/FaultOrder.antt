@@ -30,13 +30,11 @@ use Rattle.pvm_ops.specs.BlockList.{BlockList}
 use Rattle.jump_table.specs.Assembly.{code_of, four_each}
 use Rattle.jump_table.specs.Laws.{AreLengths}
 use Rattle.jump_table.specs.Assembling.{Assembles, AssembledCode, IsTooLarge as BlocksAreTooLarge}
-use Rattle.link_core.specs.Unsupported.{unsupported_faults, first_unsupported}
 use Rattle.link_core.specs.Faults.{object_faults, input_of, content_faults, given_faults, IsTooLarge, HasNone, IsFirst, HasNoFault, HasFirstFault, Refuses}
 use Rattle.link_core.specs.Linked.{Linked, HoldsLinked}
 use Rattle.link_core.specs.LinkFaults.{of_symbols, of_layout, of_code, of_data}
 use Rattle.link_core.specs.declared.link_fault.LinkFault.{LinkFault}
 use Rattle.link_core.specs.declared.link_fault.LinkFault.TheVariants.{Bad, Memory}
-use Rattle.link_core.proofs.NoneNamed.{first_is, none_is}
 
 -- the first fault of an earlier phase is the first of all
 first_before : (earlier later : List Fault) (fault : Fault) → first_in earlier ≡ Some fault → first_in (earlier ++ later) ≡ Some fault
@@ -75,34 +73,34 @@ layout_first given fault none first = rw none (refused_before (layout_faults giv
 module _ (given : Given) where
   -- of what the sections hold a fault of code is refused first
   pub code_first : (fault : LiftFault) → CodeRefuses given fault → Refuses (IsFirst (content_faults given) given) (of_code fault)
-  code_first fault refused = refused_before (code_faults given) (data_faults given ++ unsupported_faults given) given (of_code fault) (code_refused given fault refused)
+  code_first fault refused = refused_before (code_faults given) (data_faults given) given (of_code fault) (code_refused given fault refused)
 
   -- then one of data
   pub data_first : (fault : RelocFault) → code_faults given ≡ [] → DataRefuses given fault → Refuses (IsFirst (content_faults given) given) (of_data fault)
-  data_first fault code refused = rw code (refused_before (data_faults given) (unsupported_faults given) given (of_data fault) (data_refused given fault refused))
+  data_first fault code refused = rw code (data_refused_first (of_data fault) (data_refused given fault refused))
+    where
+      data_refused_first : (fault : LinkFault) → Refuses (λ f. first_in (data_faults given) ≡ Some f) fault → Refuses (IsFirst (data_faults given) given) fault
+      data_refused_first (Bad fault) first = inl first
+      data_refused_first Memory first = tt
 
-  -- then what is not supported yet
-  pub unsupported_first : (fault : Fault) → code_faults given ≡ [] → data_faults given ≡ [] → first_unsupported given ≡ Some fault → IsFirst (content_faults given) given fault
-  unsupported_first fault code in_data found = rw (code, in_data) (inl (first_is given ∙ found))
-
-  none_listed : code_faults given ≡ [] → data_faults given ≡ [] → first_unsupported given ≡ None → content_faults given ≡ []
-  none_listed code in_data supported = rw (code, in_data) (none_is given supported)
+  none_listed : code_faults given ≡ [] → data_faults given ≡ [] → content_faults given ≡ []
+  none_listed code in_data = rw (code, in_data) refl
 
   module _ (lifted : Lifted) (is_lifted : IsLifted given lifted) where
     -- and then too large a program
-    pub size_first : (fault : Fault) → code_faults given ≡ [] → data_faults given ≡ [] → first_unsupported given ≡ None → BlocksAreTooLarge (lowered_blocks lifted) → fault ≡ whole 32 → IsFirst (content_faults given) given fault
-    size_first fault code in_data supported large is =
+    pub size_first : (fault : Fault) → code_faults given ≡ [] → data_faults given ≡ [] → BlocksAreTooLarge (lowered_blocks lifted) → fault ≡ whole 32 → IsFirst (content_faults given) given fault
+    size_first fault code in_data large is =
         let lengths = four_each (lowered_blocks lifted) in
         inr (record {
-          none_listed = none_listed code in_data supported;
+          none_listed = none_listed code in_data;
           large = record { lifted = lifted; is_lifted = is_lifted; lengths = lengths; lengths_are = refl; large = large lengths refl };
           is = is;
         })
 
-    pub size_refused : (list : BlockList) (fault : LinkFault) → list ≡ lowered_blocks lifted → code_faults given ≡ [] → data_faults given ≡ [] → first_unsupported given ≡ None
+    pub size_refused : (list : BlockList) (fault : LinkFault) → list ≡ lowered_blocks lifted → code_faults given ≡ [] → data_faults given ≡ []
         → Refuses (λ f. BlocksAreTooLarge list × (f ≡ whole 32)) fault → Refuses (IsFirst (content_faults given) given) fault
-    size_refused list (Bad fault) e code in_data supported refused = size_first fault code in_data supported (subst BlocksAreTooLarge e refused.0) refused.1
-    size_refused list Memory e code in_data supported refused = tt
+    size_refused list (Bad fault) e code in_data refused = size_first fault code in_data (subst BlocksAreTooLarge e refused.0) refused.1
+    size_refused list Memory e code in_data refused = tt
 
     -- a program that is written is not too large
     not_too_large : LiftedIsOne → (program : AssembledCode) → Assembles (lowered_blocks lifted) program → ¬ IsTooLarge given
@@ -113,8 +111,8 @@ module _ (given : Given) where
         ap (λ l. length (code_of too.lengths (lowered_blocks l)).bytes) same ∙ ap (λ l. length (code_of l (lowered_blocks lifted)).bytes) lengths ∙ sym (ap (λ c. length c.bytes) assembled.code) in
         absurd (omega (arith, too.large, size, assembled.size))
 
-    pub has_none : LiftedIsOne → (program : AssembledCode) → code_faults given ≡ [] → data_faults given ≡ [] → first_unsupported given ≡ None → Assembles (lowered_blocks lifted) program → HasNone (content_faults given) given
-    has_none lifted_is_one program code in_data supported assembled = record { none_listed = none_listed code in_data supported; small = not_too_large lifted_is_one program assembled }
+    pub has_none : LiftedIsOne → (program : AssembledCode) → code_faults given ≡ [] → data_faults given ≡ [] → Assembles (lowered_blocks lifted) program → HasNone (content_faults given) given
+    has_none lifted_is_one program code in_data assembled = record { none_listed = none_listed code in_data; small = not_too_large lifted_is_one program assembled }
 
 -- where symbols and the layout have no fault, what holds of the sections' content holds of all
 pub content_last : (given i : Given) (result : Result Linked LinkFault) → i ≡ given → symbol_faults given ≡ [] → layout_faults given ≡ []

@@ -9,7 +9,7 @@ use Rattle.machine_state.specs.State.{State, IsState, with_register, with_memory
 use Rattle.machine_state.specs.Start.{Image, start_state}
 use Rattle.machine_state.specs.Ends.{Host}
 use Rattle.machine_state.specs.Hosts.{bounds_of, IsWorld, GoodAnswer, AnswersWell}
-use Rattle.machine_state.proofs.Registers.{registers_stay}
+use Rattle.machine_state.proofs.Registers.{registers_stay, memory_stays}
 use Rattle.link_core.specs.Hosts.{Reply, Inner, HostState, start_host, frames, with_pieces, refused_of, reply_or, by_replies, is_inner, answers, IsReply, HostFits}
 
 module _ (heap_bound : ℕ) where
@@ -20,7 +20,7 @@ module _ (heap_bound : ℕ) where
   reply_is_good : (r : Reply) (o : Option ℕ) (left : HostState) (s : State) → IsReply r → IsState s → HostFits heap_bound (bounds_of s) left → GoodAnswer Good (reply_or o r left s)
   reply_is_good r (Some address) left s is good fits = tt
   reply_is_good r None left s is good fits = record {
-    good_state = registers_stay (with_register (with_memory s (with_pieces r.pieces s.memory)) 7 r.first) 8 r.second (registers_stay (with_memory s (with_pieces r.pieces s.memory)) 7 r.first good is.0) is.1;
+    good_state = registers_stay (with_register (with_memory s (with_pieces r.pieces s.memory)) 7 r.first) 8 r.second (registers_stay (with_memory s (with_pieces r.pieces s.memory)) 7 r.first (memory_stays s (with_pieces r.pieces s.memory) good) is.0) is.1;
     held_fits = fits;
   }
 

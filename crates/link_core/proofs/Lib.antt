@@ -1,12 +1,10 @@
 pub mod PartsLaws
 pub mod DataLines
 pub mod MapLines
-pub mod NoneNamed
 pub mod FaultOrder
 pub mod LinkSteps
 pub mod OneFault
 pub mod Containers
-pub mod NoCalls
 pub mod OneProgram
 pub mod Hosts
 pub mod CodeLock

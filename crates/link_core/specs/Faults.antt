@@ -1,5 +1,5 @@
 -- The faults of a link in their order: those of the objects, of symbols and entries, too much data or code, those of code
--- and of data, what is not supported yet, and a program that is too large.
+-- and of data, and a program that is too large.
 use Rattle.std.specs.Prelude.{◌≡◌, ◌⊎◌, ℕ, ◌<◌, ◌^◌, List, [], length, map, Option, Some, None, slice_get}
 use Rattle.std.specs.List.{filter_map}
 use Rattle.faults.specs.Present.{◌followed_by◌, each_below, first_in}
@@ -15,7 +15,6 @@ use Rattle.jump_table.specs.Assembly.{code_of}
 use Rattle.jump_table.specs.Laws.{AreLengths}
 use Rattle.relocs.specs.CodeFaults.{code_faults}
 use Rattle.relocs.specs.Data.{data_faults}
-use Rattle.link_core.specs.Unsupported.{unsupported_faults}
 use Rattle.link_core.specs.declared.linker.TheConstants.{CODE_BYTES_TOO_LARGE}
 use Rattle.link_core.specs.declared.link_fault.LinkFault.{LinkFault}
 use Rattle.link_core.specs.declared.link_fault.LinkFault.TheVariants.{Bad, Memory}
@@ -33,9 +32,9 @@ object_faults files = each_below (length files) (λ at. faults_in_file at (slice
 abbrev pub input_of : List (List ℕ) → Wanted → Given
 input_of files wanted = record { objects = filter_map object_of files; wanted = wanted }
 
--- the faults of code and of data, and what is not supported yet
+-- the faults of code and of data
 abbrev pub content_faults : Given → List Fault
-content_faults given = code_faults given followed_by data_faults given followed_by unsupported_faults given
+content_faults given = code_faults given followed_by data_faults given
 
 -- the faults of objects whose files have none
 abbrev pub given_faults : Given → List Fault

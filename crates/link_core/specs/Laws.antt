@@ -1,14 +1,13 @@
 -- The law of the link that contracts name.
-use Rattle.std.specs.Prelude.{◌≡◌, []}
+use Rattle.std.specs.Prelude.{◌≡◌}
 use Rattle.symbols.specs.Wanted.{Given}
 use Rattle.blob_codec.specs.Grammar.{Container}
 use Rattle.link_core.specs.Agrees.{Agrees}
 use Rattle.link_core.specs.Linked.{IsLinked}
-use Rattle.link_core.specs.Unsupported.{unsupported_faults}
 
--- what is linked agrees, where everything is supported
+-- what is linked agrees
 abbrev pub LinkedAgrees : Type 0
-LinkedAgrees = (given : Given) (c : Container) → unsupported_faults given ≡ [] → IsLinked given c → Agrees given c
+LinkedAgrees = (given : Given) (c : Container) → IsLinked given c → Agrees given c
 
 -- a link's input has one linked program
 abbrev pub LinkedIsOne : Type 0

@@ -7,6 +7,5 @@ pub mod Parts
 pub mod MapText
 pub mod Faults
 pub mod Inputs
-pub mod Unsupported
 pub mod DataParts
 pub mod Hosts

@@ -14,7 +14,6 @@ mod linker;
 mod map_text;
 mod phases;
 mod program;
-mod unsupported;
 
 pub use bundle::Bundle;
 use jump_table::code_is_placed;
@@ -25,7 +24,7 @@ use lower::blocks_are_carried_out;
 use machine_state::start_is_good;
 use pvm_machine::effects_keep_targets;
 
-/// A program linked as `IsLinked` says agrees with its objects, where no relocation names an import.
+/// A program linked as `IsLinked` says agrees with its objects.
 pub fn linked_agrees()
     ensures { LinkedAgrees }
 {

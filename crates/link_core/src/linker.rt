@@ -79,13 +79,12 @@ pub fn first_fault_is_one()
     ensures { FirstFaultIsOne }
 {}
 
-/// Links the objects of a bundle, in its order, into the program that is wanted. Relocations that name an import are not
-/// supported yet.
+/// Links the objects of a bundle, in its order, into the program that is wanted.
 ///
 /// # Errors
 /// `Bad` with the first fault, exactly where there is one: of an object (codes 1 to 8), of symbols and entries (9 to 13),
-/// too much data or code (14 to 17), of code (20 to 28, 30 and 31), of data (27 to 29), a form that is not supported yet
-/// (63), or too large a program (32). And `Memory`.
+/// too much data or code (14 to 17), of code (20 to 28, 30 and 31), of data (27 to 29), or too large a program (32). And
+/// `Memory`.
 pub fn link(alloc: Global, bundle: &Bundle, wanted: &Wanted) -> Result<Linked, LinkFault>
     ensures { MatchResult result
         (λ linked. HasNoFault bundle.now wanted.now × HoldsLinked (input_of bundle.now wanted.now) linked)

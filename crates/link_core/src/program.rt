@@ -1,6 +1,6 @@
 //! From objects without a fault in their symbols and their layout to a program.
 
-ghost use Rattle.std.specs.Prelude.{◌≡◌, ℕ, ◌<◌, [], length, map, slice_get, slice_index, Some, MatchResult, IfOk};
+ghost use Rattle.std.specs.Prelude.{◌≡◌, ℕ, ◌<◌, length, map, slice_get, slice_index, Some, MatchResult, IfOk};
 ghost use Rattle.blob_codec.specs.Grammar.{IsContainer, container_bytes};
 ghost use Rattle.relocs.specs.Images.{AreImages};
 ghost use Rattle.lift_blocks.specs.Listed.{Lifts};
@@ -10,7 +10,6 @@ ghost use Rattle.jump_table.specs.Assembling.{Assembles, IsTooLarge as BlocksAre
 ghost use Rattle.layout.specs.Faults.{whole};
 ghost use Rattle.link_core.specs.Faults.{content_faults, HasNone, IsFirst, Refuses};
 ghost use Rattle.link_core.specs.Linked.{HoldsLinked, container_with};
-ghost use Rattle.link_core.specs.Unsupported.{unsupported_faults};
 ghost use Rattle.link_core.specs.declared.linker.TheConstants.{CODE_BYTES_TOO_LARGE};
 
 use crate::input::Input;
@@ -18,7 +17,6 @@ use crate::link_fault::LinkFault;
 use crate::linked_agrees;
 use crate::linker::{CODE_BYTES_TOO_LARGE, Linked};
 use crate::map_text::map_text;
-use crate::unsupported::first_unsupported;
 use blob_codec::{Parts, write_container, write_program};
 use elf_objects::Fault;
 use jump_table::{AssembleFault, Assembled, assemble};
@@ -39,9 +37,6 @@ pub(crate) fn link_input(alloc: Global, input: &Input<'_>) -> Result<Linked, Lin
     lifted_is_one();
     let lifted = input.lift(alloc)?;
     let images = input.images(alloc, lifted.map())?;
-    if let Some(fault) = first_unsupported(input) {
-        return Err(LinkFault::Bad(fault));
-    }
     let blocks = lower(alloc, &lifted)?;
     let program = assemble_blocks(alloc, &blocks)?;
     Ok(finish(alloc, input, lifted, &blocks, &images, &program)?)
@@ -77,7 +72,6 @@ fn finish(
     images: &Images,
     program: &Assembled,
 ) -> Result<Linked, AllocError>
-    requires supported { unsupported_faults input.now ≡ [] }
     requires lifted { Lifts input.now lifted }
     requires blocks { blocks.now ≡ lowered_blocks lifted }
     requires assemblable { IsAssemblable blocks.now }
