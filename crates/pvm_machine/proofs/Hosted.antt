@@ -1,7 +1,8 @@
 -- The run of a machine with any host, by the machine's steps alone: up to the last step all turns are quiet, and where the
 -- last one calls the host, the run is the host's answer and what comes then. So a program that repeats steps, and answers
 -- a call itself each time, makes this run.
-use Rattle.std.proofs.Common.{◌≡◌, ℕ, zero, suc, ◌+◌, ◌-◌, ◌<◌, ◌≤◌, List, [], ◌∷◌, ◌++◌, Option, Some, None, refl, ap, sym, ◌∙◌, subst, arith, zero-add}
+use Rattle.std.proofs.Common.{◌≡◌, ℕ, zero, suc, ◌+◌, ◌-◌, ◌<◌, ◌≤◌, Bool, true, false, List, [], ◌∷◌, ◌++◌, Option, Some, None, refl, ap, sym, ◌∙◌, subst, arith, zero-add}
+use Rattle.std.specs.Prelude.{nat_le}
 use Rattle.std.proofs.lemmas.Bool.{le-leb, lt-leb}
 use Rattle.std.proofs.lemmas.List.{append-nil}
 use Rattle.runs.specs.Turn.{Turn, Goes, Stops}
@@ -256,6 +257,13 @@ module _ {Held : Type 0} (host : Host Held) (gas0 : ℕ) (s0 : At ℕ (World Sta
   abbrev so_far : ℕ
   so_far = begun + (m.gas - (next.gas + 1))
 
+  -- the run ends without another call
+  pub ended_here : (end : Option End) → run_with host held m ≡ record { events = []; end = end; left = next.gas; begun = m.gas - next.gas }
+      → all_run ≡ record { events = events; end = end; left = next.gas; begun = begun + (m.gas - next.gas) }
+  ended_here end last =
+      came ∙ ap (paid events begun) last
+      ∙ ap (λ (l : List Event). record { events = l; end = end; left = next.gas; begun = begun + (m.gas - next.gas) }) (append-nil events)
+
   module _ (number : ℕ) (is : record { machine = next; answer = answer.Host number } ≡ all_steps m) where
     abbrev told : Event
     told = event number next.state
@@ -289,3 +297,17 @@ module _ {Held : Type 0} (host : Host Held) (gas0 : ℕ) (s0 : At ℕ (World Sta
     -- the host ends the run
     pub ended_by : (end : End) → asked ≡ Ended end → all_run ≡ record { events = events ++ told ∷ []; end = Some end; left = next.gas; begun = so_far + 1 }
     ended_by end e = to_call ∙ ap (λ a. paid events so_far (pay (pay_run (machine_step host m.table m.code)) next.gas (placed next.counter (called told a)))) e
+
+    -- whatever the answer is, the call is the next event
+    call_first : (a : Answer Held) → (more : List Event) × ((pay (pay_run (machine_step host m.table m.code)) next.gas (placed next.counter (called told a))).events ≡ told ∷ more)
+    call_first (Ended end) = ([], refl)
+    call_first (Answered spent rest w) = by_test (nat_le (spent + rest) next.gas)
+      where
+        by_test : (b : Bool) → (more : List Event) × ((go_if b (pay_run (machine_step host m.table m.code)) next.gas (told ∷ []) spent (record { at = next.counter; of = w })).events ≡ told ∷ more)
+        by_test true = ((pay_run (machine_step host m.table m.code) (next.gas - spent) (record { at = next.counter; of = w })).events, refl)
+        by_test false = ([], refl)
+
+    pub told_next : (more : List Event) × (all_run.events ≡ events ++ told ∷ more)
+    told_next =
+        let first = call_first asked in
+        (first.0, ap (λ (r : Paid Event End). r.events) to_call ∙ ap (λ l. events ++ l) first.1)

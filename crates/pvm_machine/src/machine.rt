@@ -210,6 +210,13 @@ impl<'a> Machine<'a> {
         self.registers[at as usize]
     }
 
+    /// The values of all registers.
+    pub fn registers(&self) -> &[u64; 13]
+        ensures { result.now ≡ self.now.state.registers }
+    {
+        &self.registers
+    }
+
     /// Sets a register.
     pub fn set_register(&mut self, at: u8, value: u64)
         requires { at ≤ 12 }
