@@ -1,4 +1,4 @@
 mod Adding
-mod Hex
+pub mod Hex
 mod Names
 mod Texts

@@ -9,7 +9,8 @@ ghost use Rattle.disasm.specs.Digits.{hex, hex_digits};
 ghost use Rattle.disasm.specs.Disassembly.{disassembly, end_of, entry_line, instruction, line, line_at, size_line};
 ghost use Rattle.disasm.specs.Putting.{Adds};
 
-use crate::text::{LINE_LEN, PIECE_LEN, Text, push_byte, push_hex, push_instruction, push_number};
+use crate::digits::{push_byte, push_hex};
+use crate::text::{LINE_LEN, PIECE_LEN, Text, push_instruction, push_number};
 use arrayvec::ArrayString;
 use blob_codec::Program;
 use outside::{Failed, Sink};

@@ -1,12 +1,10 @@
 //! What is printed into the text that is kept until a piece of it is put.
 
 ghost use Rattle.std.specs.Prelude.{◌≡◌, ◌+◌, ◌*◌, ◌≤◌, ◌<◌, ◌++◌, true, ◌∷◌, [], length, codes, decimal, IsTrue, slice_index};
-ghost use Rattle.std.specs.Str.{IsAscii};
 ghost use Rattle.std.specs.Fmt.{signed_decimal};
 ghost use Rattle.arrayvec.specs.ArrayString.{array_string_len};
 ghost use Rattle.pvm_ops.specs.Listing.{is_marked};
 ghost use Rattle.pvm_ops.specs.Opcodes.{is_known, name_of};
-ghost use Rattle.disasm.specs.Digits.{byte_digits, hex_digits};
 ghost use Rattle.disasm.specs.Disassembly.{immediate, instruction, operands, register, target};
 
 use arrayvec::ArrayString;
@@ -167,45 +165,4 @@ fn push_name(op: u8, text: &mut Text)
     ensures len { array_string_len text.new ≤ array_string_len text.old + NUMBER_LEN }
 {
     text.push_str(name(op));
-}
-
-/// Adds the low bytes of a number in hexadecimal digits, the highest of them first.
-pub(crate) fn push_hex(bytes: u8, number: u64, text: &mut Text)
-    requires { array_string_len text.old + 2 * bytes ≤ PIECE_LEN }
-    ensures text { text.new.bytes ≡ text.old.bytes ++ hex_digits (2 * bytes) number }
-    ensures len { array_string_len text.new ≡ array_string_len text.old + 2 * bytes }
-{
-    if bytes > 0 {
-        push_hex(bytes - 1, number / 256, text);
-        push_byte((number % 256) as u8, text);
-    }
-}
-
-/// Adds the two digits of a byte.
-pub(crate) fn push_byte(byte: u8, text: &mut Text)
-    requires { array_string_len text.old + 2 ≤ PIECE_LEN }
-    ensures text { text.new.bytes ≡ text.old.bytes ++ byte_digits byte }
-    ensures len { array_string_len text.new ≡ array_string_len text.old + 2 }
-{
-    text.push_str(as_text(&digits(byte)));
-}
-
-/// The two digits of a byte.
-fn digits(byte: u8) -> [u8; 2]
-    ensures value { result ≡ byte_digits byte }
-    ensures ascii { IsAscii result }
-{
-    let mut digits = [0; 2];
-    let fits = hex::encode_to_slice([byte], &mut digits[..]);
-    prove!(fits.is_ok());
-    digits
-}
-
-/// Digits as text, which they are.
-#[tactic(auto, using(crate::proofs::Hex::ascii_is_text))]
-fn as_text(digits: &[u8]) -> &str
-    requires { IsAscii digits.now }
-    ensures { result.now ≡ digits.now }
-{
-    str::from_utf8(digits).unwrap_or("")
 }

@@ -1,4 +1,4 @@
-use Rattle.disasm.proofs.text.+push_hex.Given as goal
+use Rattle.disasm.proofs.digits.+push_hex.Given as goal
 
 abbrev pub decreases-push_hex : goal.decreases-push_hex
-decreases-push_hex l = l.bytes
+decreases-push_hex g l = l.bytes

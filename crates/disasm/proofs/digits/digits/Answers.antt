@@ -1,7 +1,7 @@
 use Rattle.std.proofs.Common.{refl, ◌∙◌, sym, subst, arith}
 use Rattle.std.specs.Str.{IsAscii}
 use Rattle.disasm.proofs.Hex.{written_if_ok, digits_are, digits_are_ascii}
-use Rattle.disasm.proofs.text.digits.Goals as goal
+use Rattle.disasm.proofs.digits.digits.Goals as goal
 
 pub returns-clause-value : goal.returns-clause-value
 returns-clause-value c =
