@@ -1,0 +1,7 @@
+pub mod Looping
+mod Hexadecimal
+mod Ranges
+mod Ending
+pub mod Writing
+pub mod Reading
+pub mod Examples

@@ -1,0 +1,22 @@
+//! The transcript of a run: a line for each host call, which a list of replies answers, one for the end, and one for the
+//! gas that is left.
+//!
+//! `specs/Grammar.antt` says which files are lists of replies, `specs/Hosts.antt` how they answer calls, `specs/Lines.antt`
+//! has the lines, and `specs/Telling.antt` what a run leaves and writes.
+#![tactic(auto)]
+
+mod lines;
+mod numbers;
+mod output;
+mod parts;
+mod replies;
+mod reply_fault;
+mod run_end;
+mod telling;
+mod text;
+
+pub use lines::{end_lines, event_line};
+pub use replies::Replies;
+pub use reply_fault::ReplyFault;
+pub use run_end::RunEnd;
+pub use telling::{TellFault, tell};

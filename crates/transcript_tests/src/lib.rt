@@ -1,0 +1,7 @@
+//! Tests of transcripts and replies.
+#![tactic(auto)]
+
+#[cfg(test)]
+mod reply_tests;
+#[cfg(test)]
+mod run_tests;
