@@ -38,7 +38,8 @@ use Rattle.jump_table.specs.Laws.{IsAssemblable, AreEnded, AreLengths, IsPlaced,
 use Rattle.lower.specs.Lowering.{lowered_blocks}
 use Rattle.lower.specs.Cutting.{pieces, first_piece, instr_does, instr_places}
 use Rattle.lower.specs.Laws.{LoweredIsCut, BlocksAreAll, EntriesBegin, BlocksStand, SameInstrs, SamePlaces, LoweredIsPlaceable}
-use Rattle.link_core.specs.Hosts.{start_host, answers, HostFits}
+use Rattle.transcript.specs.Hosts.{start_host}
+use Rattle.link_core.specs.Hosts.{answers, HostFits}
 use Rattle.link_core.specs.Runs.{source_run, machine_run, image_of}
 use Rattle.link_core.specs.Agrees.{Agrees}
 use Rattle.link_core.specs.Linked.{container_of}

@@ -10,7 +10,8 @@ use Rattle.machine_state.specs.Start.{Image, start_state}
 use Rattle.machine_state.specs.Ends.{Host}
 use Rattle.machine_state.specs.Hosts.{bounds_of, IsWorld, GoodAnswer, AnswersWell}
 use Rattle.machine_state.proofs.Registers.{registers_stay, memory_stays}
-use Rattle.link_core.specs.Hosts.{Reply, Inner, HostState, start_host, frames, with_pieces, refused_of, reply_or, by_replies, is_inner, answers, IsReply, HostFits}
+use Rattle.transcript.specs.Hosts.{Reply, Inner, HostState, start_host, with_pieces, refused_of, reply_or, by_replies}
+use Rattle.link_core.specs.Hosts.{frames, is_inner, answers, IsReply, HostFits}
 
 module _ (heap_bound : ℕ) where
   abbrev Good : World State HostState → Type 0

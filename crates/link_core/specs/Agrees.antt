@@ -6,7 +6,8 @@ use Rattle.machine_state.specs.Ends.{Host}
 use Rattle.machine_state.specs.Hosts.{AnswersWell}
 use Rattle.symbols.specs.Wanted.{Given}
 use Rattle.blob_codec.specs.Grammar.{Container}
-use Rattle.link_core.specs.Hosts.{Reply, HostState, start_host, answers, IsReply, HostFits}
+use Rattle.transcript.specs.Hosts.{Reply, HostState, start_host}
+use Rattle.link_core.specs.Hosts.{answers, IsReply, HostFits}
 use Rattle.link_core.specs.Runs.{source_run, machine_run}
 
 -- For every wanted entry, every argument of at most 2^24 bytes, every list of replies and whatever gas: the container's
