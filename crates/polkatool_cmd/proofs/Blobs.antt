@@ -1,5 +1,5 @@
 -- What reading a blob and its container makes of a command.
-use Rattle.std.proofs.Common.{◌≡◌, ℕ, ◌^◌, ◌<◌, List, length, Option, Some, Err, refl, sym, ap, ◌∙◌, inl}
+use Rattle.std.proofs.Common.{◌≡◌, ℕ, ◌^◌, ◌<◌, List, [], length, Option, Some, None, Err, refl, sym, ap, ◌∙◌, inl, inr, arith}
 use Rattle.std.proofs.lemmas.Bool.{lt-ltb}
 use Rattle.outside.specs.Outside.{Files, AnswersRead}
 use Rattle.outside.specs.declared.folder.ReadFault.{ReadFault}
@@ -8,14 +8,16 @@ use Rattle.elf_objects.specs.declared.fault.Fault.{Fault}
 use Rattle.blob_codec.specs.Grammar.{Container}
 use Rattle.polkatool_cmd.specs.declared.answer.Answer.{Answer}
 use Rattle.polkatool_cmd.specs.declared.answer.Answer.TheVariants as answers
-use Rattle.polkatool_cmd.specs.Faults.{too_large}
+use Rattle.polkatool_cmd.specs.Faults.{too_large, file_too_large}
 use Rattle.polkatool_cmd.specs.BlobFaults.{first_blob_fault}
 use Rattle.polkatool_cmd.specs.RunWords.{RunCommand}
-use Rattle.polkatool_cmd.specs.RunFaults.{run_fault_in}
-use Rattle.polkatool_cmd.specs.Answers.{TextComesTo, RunComesTo}
+use Rattle.polkatool_cmd.specs.Linking.{IsTooLarge, FailsToReadOne}
+use Rattle.polkatool_cmd.specs.Running.{FailsToReadReplies}
+use Rattle.polkatool_cmd.specs.Answers.{HasRunFault, TextComesTo, RunComesTo}
 use Rattle.polkatool_cmd.specs.Snapshot.{Snapshot, HasFault}
-use Rattle.polkatool_cmd.specs.Blobs.{HoldsTooLarge, FailsToReadBlob}
+use Rattle.polkatool_cmd.specs.Blobs.{HoldsBlob, HoldsTooLarge, FailsToReadBlob}
 use Rattle.polkatool_cmd.proofs.Answering.{long-read}
+use Rattle.polkatool_cmd.proofs.RunFaults.{run_fault-blob, run_fault-replies}
 
 -- a file that is too large has that fault
 first_blob_fault-long :
@@ -49,12 +51,56 @@ RunComesTo-unread asked answers.Done old new fails others = absurd fails
 RunComesTo-unread asked answers.Panicked old new fails others = absurd fails
 RunComesTo-unread asked answers.Faulted old new fails others = absurd fails
 RunComesTo-unread asked answers.OutOfGas old new fails others = absurd fails
+RunComesTo-unread asked answers.Unanswered old new fails others = absurd fails
+RunComesTo-unread asked answers.BadReply old new fails others = absurd fails
 RunComesTo-unread asked (answers.Refused fault) old new fails others =
-    (HasFault-long (run_fault_in asked.entry asked.argument) old.files asked.blob fault fails.0 fails.1, unchanged old new others fails.2)
+    let long = fails.1 in (
+      record {
+        blob = long.file;
+        blob_held = long.held;
+        file = [];
+        file_held = λ fits. absurd (omega (arith, fits, long.len));
+        first = run_fault-blob asked.entry asked.argument long.file [] long.len ∙ ap (λ f. Some f) (sym fails.0);
+      },
+      unchanged old new others fails.2,
+    )
 RunComesTo-unread asked answers.Usage old new fails others = absurd fails
 RunComesTo-unread asked answers.FileFault old new fails others =
     inl (record { later = fails.0; cause = fails.1; others = others })
-RunComesTo-unread asked answers.Memory old new fails others = unchanged old new others fails
+RunComesTo-unread asked answers.Memory old new fails others = inl (unchanged old new others fails)
+
+-- a run whose file of replies wasn't read
+pub RunComesTo-no_replies :
+    (asked : RunCommand) (answer : Answer) (old new : Snapshot) (blob : List ℕ) → HoldsBlob old.files asked.blob blob
+    → FailsToReadReplies old.files asked.replies old.reads new.reads answer → new ≡ record old { reads = new.reads }
+    → RunComesTo asked answer old new
+RunComesTo-no_replies asked answer old new blob holds fails others = by_name asked.replies refl fails
+  where
+    large : (name : List ℕ) (fault : Fault) → asked.replies ≡ Some name → IsTooLarge old.files name (2 ^ 20) → fault ≡ file_too_large 1 → HasRunFault old.files asked fault
+    large name fault is long fault_is = record {
+      blob = blob;
+      blob_held = holds.held;
+      file = long.file;
+      file_held = λ fits. (rw is long.held);
+      first = run_fault-replies asked.entry asked.argument blob long.file holds.len long.large ∙ ap (λ f. Some f) (sym fault_is);
+    }
+
+    by_answer : (name : List ℕ) → asked.replies ≡ Some name → (answer : Answer) → FailsToReadOne old.files name 1 (2 ^ 20) old.reads new.reads answer → RunComesTo asked answer old new
+    by_answer name is answers.Done fails = absurd fails
+    by_answer name is answers.Panicked fails = absurd fails
+    by_answer name is answers.Faulted fails = absurd fails
+    by_answer name is answers.OutOfGas fails = absurd fails
+    by_answer name is answers.Unanswered fails = absurd fails
+    by_answer name is answers.BadReply fails = absurd fails
+    by_answer name is (answers.Refused fault) fails = (large name fault is fails.0 fails.1, unchanged old new others fails.2)
+    by_answer name is answers.Usage fails = absurd fails
+    by_answer name is answers.FileFault fails =
+        inr (inl (record { blob = blob; blob_held = holds.held; fits = holds.len; name = name; is_name = is; failed = record { later = fails.later; cause = fails.cause; others = others } }))
+    by_answer name is answers.Memory fails = inl (unchanged old new others fails)
+
+    by_name : (o : Option (List ℕ)) → asked.replies ≡ o → FailsToReadReplies old.files o old.reads new.reads answer → RunComesTo asked answer old new
+    by_name None is fails = absurd fails
+    by_name (Some name) is fails = by_answer name is answer fails
 
 -- a command that puts a text, whose blob wasn't read
 pub TextComesTo-unread :
@@ -66,6 +112,8 @@ TextComesTo-unread fault_in text_of blob answers.Done old new fails others = abs
 TextComesTo-unread fault_in text_of blob answers.Panicked old new fails others = absurd fails
 TextComesTo-unread fault_in text_of blob answers.Faulted old new fails others = absurd fails
 TextComesTo-unread fault_in text_of blob answers.OutOfGas old new fails others = absurd fails
+TextComesTo-unread fault_in text_of blob answers.Unanswered old new fails others = absurd fails
+TextComesTo-unread fault_in text_of blob answers.BadReply old new fails others = absurd fails
 TextComesTo-unread fault_in text_of blob (answers.Refused fault) old new fails others =
     (HasFault-long fault_in old.files blob fault fails.0 fails.1, unchanged old new others fails.2)
 TextComesTo-unread fault_in text_of blob answers.Usage old new fails others = absurd fails

@@ -3,11 +3,8 @@ mod ItemsLemmas
 mod Importing
 mod LastSign
 mod Digits
-mod Hexadecimal
 mod Arguments
-mod Ranges
 mod RunFaults
-mod Lines
 mod Answering
 mod Reading
 mod Blobs

@@ -100,6 +100,8 @@ fails_to_read told names files at left before now name answers.Done h there fail
 fails_to_read told names files at left before now name answers.Panicked h there fails = absurd fails
 fails_to_read told names files at left before now name answers.Faulted h there fails = absurd fails
 fails_to_read told names files at left before now name answers.OutOfGas h there fails = absurd fails
+fails_to_read told names files at left before now name answers.Unanswered h there fails = absurd fails
+fails_to_read told names files at left before now name answers.BadReply h there fails = absurd fails
 fails_to_read told names files at left before now name answers.Usage h there fails = absurd fails
 
 -- the name with a number

@@ -1,13 +1,18 @@
 -- What a command comes to, and how that is told.
-use Rattle.std.specs.Prelude.{◌≡◌, ◌⊎◌, ℕ, List, Option, Some, None, Ok}
+use Rattle.std.specs.Prelude.{◌≡◌, ◌≤◌, ◌^◌, ◌⊎◌, ℕ, List, length, Option, Some, None, Ok}
 use Rattle.std.specs.Io.KnownBytes.{Appends}
 use Rattle.outside.specs.Outside.{Files, Rose, AppendsFront, KeepsOthers}
 use Rattle.elf_objects.specs.declared.fault.Fault.{Fault}
 use Rattle.runs.specs.Runs.{Paid}
-use Rattle.machine_state.specs.Ends.{Event, End, no_host}
+use Rattle.machine_state.specs.Ends.{Event, End}
 use Rattle.blob_codec.specs.Grammar.{Container}
 use Rattle.blob_codec.specs.Reading.{container_of}
 use Rattle.disasm.specs.Disassembly.{disassembly}
+use Rattle.pvm_machine.specs.Machine.{Machine}
+use Rattle.transcript.specs.Grammar.{replies_of}
+use Rattle.transcript.specs.Hosts.{Reply, replying, start_host}
+use Rattle.transcript.specs.Lines.{transcript}
+use Rattle.transcript.specs.Telling.{IsStopped}
 use Rattle.link_core.specs.Runs.{machine_run}
 use Rattle.polkatool_cmd.specs.Commands.{Command, Link, Run, Check, Disassemble}
 use Rattle.polkatool_cmd.specs.RunWords.{RunCommand}
@@ -16,7 +21,7 @@ use Rattle.polkatool_cmd.specs.LinkAnswers.{LinkComesTo}
 use Rattle.polkatool_cmd.specs.BlobFaults.{first_disassemble_fault}
 use Rattle.polkatool_cmd.specs.RunFaults.{first_run_fault}
 use Rattle.polkatool_cmd.specs.CheckFaults.{first_check_fault}
-use Rattle.polkatool_cmd.specs.Transcript.{transcript}
+use Rattle.polkatool_cmd.specs.Running.{HoldsReplies}
 use Rattle.polkatool_cmd.specs.Statuses.{status_of}
 use Rattle.polkatool_cmd.specs.Lines.{ok_text, usage_line, file_fault_line, memory_line, refused_line}
 use Rattle.polkatool_cmd.specs.declared.answer.Answer.{Answer}
@@ -32,12 +37,27 @@ pub record HoldsContainer (first_of : List ℕ → Option Fault) (files : Option
   pub no_fault : first_of file ≡ None
   pub is_container : container_of file ≡ Ok container
 
--- The name of the blob holds a container without a fault at the entry and with the argument, and this is its run from
--- there, with this argument and with so much gas.
+-- The files of a run hold a container without a fault at the entry and with the argument, and replies, and this is the
+-- container's run from there, with this argument, these replies and this gas.
 pub record HoldsRun (files : Option Files) (asked : RunCommand) (run : Paid Event End) : Type 0 where
+  pub blob : List ℕ
+  pub blob_held : Holds files asked.blob blob
+  pub file : List ℕ
+  pub file_held : HoldsReplies files asked.replies file
+  pub no_fault : first_run_fault asked.entry asked.argument blob file ≡ None
   pub container : Container
-  pub holds : HoldsContainer (first_run_fault asked.entry asked.argument) files asked.blob container
-  pub run_is : run ≡ machine_run no_host tt container asked.entry asked.argument asked.gas
+  pub is_container : container_of blob ≡ Ok container
+  pub replies : List Reply
+  pub are_replies : replies_of file ≡ Ok replies
+  pub run_is : run ≡ machine_run replying (start_host replies) container asked.entry asked.argument asked.gas
+
+-- The files of a run have this first fault. The file of replies is read where the blob's file isn't too large.
+pub record HasRunFault (files : Option Files) (asked : RunCommand) (fault : Fault) : Type 0 where
+  pub blob : List ℕ
+  pub blob_held : Holds files asked.blob blob
+  pub file : List ℕ
+  pub file_held : length blob ≤ 2 ^ 27 → HoldsReplies files asked.replies file
+  pub first : first_run_fault asked.entry asked.argument blob file ≡ Some fault
 
 -- The run ended with this status, and its transcript was put; all else is as before.
 pub record HasRun (asked : RunCommand) (status : Status) (old new : Snapshot) : Type 0 where
@@ -47,7 +67,17 @@ pub record HasRun (asked : RunCommand) (status : Status) (old new : Snapshot) : 
   pub told : Appends old.out new.out (transcript run)
   pub others : new ≡ record old { out = new.out }
 
--- A put of the run's transcript failed after a front of it; all else is as before.
+-- The blob's file was read and isn't too large, and the file of replies is missing or its read failed; all else is as
+-- before.
+pub record FailedReplies (asked : RunCommand) (old new : Snapshot) : Type 0 where
+  pub blob : List ℕ
+  pub blob_held : Holds old.files asked.blob blob
+  pub fits : length blob ≤ 2 ^ 27
+  pub name : List ℕ
+  pub is_name : asked.replies ≡ Some name
+  pub failed : FailedRead name old new
+
+-- A put of the run's transcript failed after a prefix of it; all else is as before.
 pub record FailedTranscript (asked : RunCommand) (old new : Snapshot) : Type 0 where
   pub run : Paid Event End
   pub is_run : HoldsRun old.files asked run
@@ -55,19 +85,30 @@ pub record FailedTranscript (asked : RunCommand) (old new : Snapshot) : Type 0 w
   pub cause : Rose old.puts new.puts
   pub others : new ≡ record old { out = new.out; puts = new.puts }
 
--- What a run comes to: it ended, as the answer says, and is told; or it is refused with the first fault of the blob's
--- file at the entry and with the argument; or a read or a put failed; or memory was refused. After a refusal and after
--- want of memory all is as before.
+-- An allocation failed at an `sbrk` that would map pages, where the run's machine had come to. The lines of the calls
+-- before it were put, a prefix of the transcript; all else is as before.
+pub record StoppedRun (asked : RunCommand) (old new : Snapshot) : Type 0 where
+  pub run : Paid Event End
+  pub is_run : HoldsRun old.files asked run
+  pub machine : Machine
+  pub stopped : IsStopped run machine (record { text = old.out; puts = old.puts }) (record { text = new.out; puts = new.puts })
+  pub others : new ≡ record old { out = new.out }
+
+-- What a run comes to: it ended, as the answer says, and is told; or it is refused with the first fault of its files at the
+-- entry and with the argument; or a read or a put failed; or an allocation failed, before anything was put or at an
+-- `sbrk`. After a refusal all is as before.
 abbrev pub RunComesTo : RunCommand → Answer → Snapshot → Snapshot → Type 0
 RunComesTo asked answers.Done old new = HasRun asked statuses.Done old new
 RunComesTo asked answers.Panicked old new = HasRun asked statuses.Panicked old new
 RunComesTo asked answers.Faulted old new = HasRun asked statuses.Faulted old new
 RunComesTo asked answers.OutOfGas old new = HasRun asked statuses.OutOfGas old new
-RunComesTo asked (answers.Refused fault) old new =
-    HasFault (first_run_fault asked.entry asked.argument) old.files asked.blob (Some fault) × (new ≡ old)
+RunComesTo asked answers.Unanswered old new = HasRun asked statuses.Unanswered old new
+RunComesTo asked answers.BadReply old new = HasRun asked statuses.BadReply old new
+RunComesTo asked (answers.Refused fault) old new = HasRunFault old.files asked fault × (new ≡ old)
 RunComesTo asked answers.Usage old new = ⊥
-RunComesTo asked answers.FileFault old new = FailedRead asked.blob old new ⊎ FailedTranscript asked old new
-RunComesTo asked answers.Memory old new = new ≡ old
+RunComesTo asked answers.FileFault old new =
+    FailedRead asked.blob old new ⊎ (FailedReplies asked old new ⊎ FailedTranscript asked old new)
+RunComesTo asked answers.Memory old new = (new ≡ old) ⊎ StoppedRun asked old new
 
 -- The name holds a container without such a fault, and its text was put; all else is as before.
 pub record HasTold (first_of : List ℕ → Option Fault) (text_of : Container → List ℕ) (blob : List ℕ)
@@ -96,6 +137,8 @@ TextComesTo first_of text_of blob (answers.Refused fault) old new =
 TextComesTo first_of text_of blob answers.Panicked old new = ⊥
 TextComesTo first_of text_of blob answers.Faulted old new = ⊥
 TextComesTo first_of text_of blob answers.OutOfGas old new = ⊥
+TextComesTo first_of text_of blob answers.Unanswered old new = ⊥
+TextComesTo first_of text_of blob answers.BadReply old new = ⊥
 TextComesTo first_of text_of blob answers.Usage old new = ⊥
 TextComesTo first_of text_of blob answers.FileFault old new =
     FailedRead blob old new ⊎ FailedText first_of text_of blob old new
@@ -139,6 +182,8 @@ Reports answers.Done status old new = (status ≡ statuses.Done) × (new ≡ old
 Reports answers.Panicked status old new = (status ≡ statuses.Panicked) × (new ≡ old)
 Reports answers.Faulted status old new = (status ≡ statuses.Faulted) × (new ≡ old)
 Reports answers.OutOfGas status old new = (status ≡ statuses.OutOfGas) × (new ≡ old)
+Reports answers.Unanswered status old new = (status ≡ statuses.Unanswered) × (new ≡ old)
+Reports answers.BadReply status old new = (status ≡ statuses.BadReply) × (new ≡ old)
 Reports (answers.Refused fault) status old new = Puts (refused_line fault) statuses.Refused status old new
 Reports answers.Usage status old new = Puts usage_line statuses.Usage status old new
 Reports answers.FileFault status old new = Puts file_fault_line statuses.FileFault status old new

@@ -16,7 +16,6 @@ pub mod Lines
 pub mod BlobFaults
 pub mod RunFaults
 pub mod CheckFaults
-pub mod Transcript
 pub mod Answers
 pub mod Running
 pub mod Blobs

@@ -1,6 +1,6 @@
 -- What the program prints.
 use Rattle.std.specs.Prelude.{ℕ, List, ◌++◌, codes}
-use Rattle.std.specs.Fmt.{decimal}
+use Rattle.transcript.specs.Lines.{number_field}
 use Rattle.elf_objects.specs.declared.fault.Fault.{Fault}
 use Rattle.polkatool_cmd.specs.FaultNames.{fault_name}
 
@@ -17,10 +17,6 @@ file_fault_line = codes "polkatool: file fault\n"
 
 abbrev pub memory_line : List ℕ
 memory_line = codes "polkatool: out of memory\n"
-
--- a label and a number in decimal
-abbrev pub number_field : List ℕ → ℕ → List ℕ
-number_field label number = label ++ decimal number
 
 -- the line on err for a refusal: the code, its name, and where the fault is
 unfoldable pub refused_line : Fault → List ℕ

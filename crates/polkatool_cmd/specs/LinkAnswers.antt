@@ -85,6 +85,8 @@ LinkComesTo link (answers.Refused fault) old new =
 LinkComesTo link answers.Panicked old new = ⊥
 LinkComesTo link answers.Faulted old new = ⊥
 LinkComesTo link answers.OutOfGas old new = ⊥
+LinkComesTo link answers.Unanswered old new = ⊥
+LinkComesTo link answers.BadReply old new = ⊥
 LinkComesTo link answers.Usage old new = ⊥
 LinkComesTo link answers.FileFault old new =
     FailedObject link old new ⊎ (FailedWrite link old new ⊎ FailedPut link old new)

@@ -6,11 +6,7 @@ use Rattle.symbols.specs.declared.wanted.ImportKind.{ImportKind}
 use Rattle.symbols.specs.declared.wanted.ImportKind.TheVariants.{Host, Sbrk}
 use Rattle.symbols.specs.Wanted.{Import, Wanted}
 use Rattle.polkatool_cmd.specs.Items.{Item, items, value_in, file_in}
-use Rattle.polkatool_cmd.specs.Values.{is_name, number_below}
-
--- the output's name, which may begin with '-'
-abbrev pub output_of : List ℕ → Option (List ℕ)
-output_of value = if is_name value then Some value else None
+use Rattle.polkatool_cmd.specs.Values.{name_of, number_below}
 
 -- the name of an entry or an import: any bytes, and not none
 abbrev pub wanted_name : List ℕ → Option (List ℕ)
@@ -35,7 +31,7 @@ import_in_value value =
 
 -- the output that an item names
 abbrev pub output_in : Item → Option (List ℕ)
-output_in item = option_and_then output_of (value_in (codes "-o") item)
+output_in item = option_and_then name_of (value_in (codes "-o") item)
 
 -- the entry that an item names
 abbrev pub entry_in : Item → Option (List ℕ)

@@ -1,24 +1,26 @@
--- Why what a file holds isn't run.
-use Rattle.std.specs.Prelude.{ℕ, ◌*◌, ◌^◌, List, length, Bool, not, ◌&&◌, ◌==◌, nat_lt, Option, slice_index}
+-- Why a container, and what a file of replies holds, isn't run.
+use Rattle.std.specs.Prelude.{ℕ, ◌*◌, ◌^◌, List, length, Bool, not, ◌&&◌, ◌==◌, nat_lt, Option, Some, None, Result, Ok, Err, slice_index}
 use Rattle.std.specs.Option.{option_map}
 use Rattle.faults.specs.First.{◌or_else◌, where_true, least_below}
 use Rattle.elf_objects.specs.declared.fault.Fault.{Fault}
 use Rattle.elf_objects.specs.declared.fault.TheConstants.{NOT_BUILT}
 use Rattle.pvm_ops.specs.Listing.{Listing, is_marked}
+use Rattle.pvm_ops.specs.Fetch.{fetch_of}
 use Rattle.blob_check.specs.Starts.{is_start}
 use Rattle.blob_codec.specs.Grammar.{Container}
-use Rattle.polkatool_cmd.specs.BlobFaults.{blob_fault, blob_fault_at, first_blob_fault}
-use Rattle.polkatool_cmd.specs.declared.fault_codes.TheConstants.{ARGUMENT_TOO_LARGE, BAD_ENTRY}
+use Rattle.blob_codec.specs.Reading.{container_of}
+use Rattle.transcript.specs.Hosts.{Reply}
+use Rattle.transcript.specs.Grammar.{replies_of}
+use Rattle.link_core.specs.Hosts.{is_inner}
+use Rattle.polkatool_cmd.specs.BlobFaults.{blob_fault, blob_fault_at, container_fault}
+use Rattle.polkatool_cmd.specs.Faults.{too_large, file_too_large}
+use Rattle.polkatool_cmd.specs.declared.fault_codes.TheConstants.{ARGUMENT_TOO_LARGE, BAD_ENTRY, BAD_REPLY_LINE}
 
--- the opcode that isn't run so far: the host call
-abbrev pub is_unbuilt : ℕ → Bool
-is_unbuilt op = op == 10
-
--- an instruction that isn't run so far is marked at the position
+-- an instruction that isn't supported yet is marked at the position: the call of a host on inner machines
 abbrev pub is_unbuilt_at : Listing → ℕ → Bool
-is_unbuilt_at code at = is_marked code at && is_unbuilt (slice_index code.bytes at)
+is_unbuilt_at code at = is_marked code at && ((slice_index code.bytes at == 10) && is_inner (fetch_of code at).instr.x)
 
--- The least instruction of a container that isn't run so far, code 63, with its position as offset. None where the
+-- The least instruction of a container that isn't supported yet, code 63, with its position as offset. None where the
 -- container can be run.
 abbrev pub unbuilt_form : Container → Option Fault
 unbuilt_form c =
@@ -32,11 +34,30 @@ argument_fault argument = where_true (nat_lt (2 ^ 24) (length argument)) (blob_f
 abbrev pub bad_entry_fault : ℕ → Container → Option Fault
 bad_entry_fault entry c = where_true (not (is_start c.program.code (5 * entry))) (blob_fault BAD_ENTRY)
 
--- The fault of a container that is to be run from an entry with an argument: an instruction that isn't run so far; an
+-- The fault of a container that is to be run from an entry with an argument: an instruction that isn't supported yet; an
 -- argument that is too long; no block starts where the jump of the entry is to stand.
 abbrev pub run_fault_in : ℕ → List ℕ → Container → Option Fault
 run_fault_in entry argument c = unbuilt_form c or_else argument_fault argument or_else bad_entry_fault entry c
 
--- the first fault of a file whose container is to be run from an entry with an argument
-abbrev pub first_run_fault : ℕ → List ℕ → List ℕ → Option Fault
-first_run_fault entry argument file = first_blob_fault (run_fault_in entry argument) file
+-- the first fault of bytes that are to be run from an entry with an argument: they are no container, or it has a fault
+abbrev pub first_start_fault : ℕ → List ℕ → List ℕ → Option Fault
+first_start_fault entry argument blob = container_fault (run_fault_in entry argument) (container_of blob)
+
+-- a line that is no reply: code 60, with the line's number, counted from 1, as offset
+abbrev pub bad_reply_line : ℕ → Fault
+bad_reply_line line = blob_fault_at BAD_REPLY_LINE line
+
+-- the first line that is no reply
+abbrev pub reply_line_fault : Result (List Reply) ℕ → Option Fault
+reply_line_fault (Ok replies) = None
+reply_line_fault (Err line) = Some (bad_reply_line line)
+
+-- The first fault of what a blob's file and a file of replies hold, for a run from an entry with an argument, in this
+-- order: more than 2^27 bytes of the first; more than 2^20 bytes of the second; a line that is no reply; no container,
+-- or what is wrong with it. Without a file of replies the second has no bytes.
+abbrev pub first_run_fault : ℕ → List ℕ → List ℕ → List ℕ → Option Fault
+first_run_fault entry argument blob replies =
+    where_true (nat_lt (2 ^ 27) (length blob)) too_large
+    or_else where_true (nat_lt (2 ^ 20) (length replies)) (file_too_large 1)
+    or_else reply_line_fault (replies_of replies)
+    or_else first_start_fault entry argument blob

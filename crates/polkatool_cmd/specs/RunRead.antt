@@ -2,7 +2,7 @@
 use Rattle.std.specs.Prelude.{◌≡◌, ℕ, List, length, option_map, slice_get}
 use Rattle.std.specs.Option.{option_copied}
 use Rattle.polkatool_cmd.specs.Items.{Item}
-use Rattle.polkatool_cmd.specs.RunWords.{RunCommand, run_entries, gas_amounts, arguments, blobs}
+use Rattle.polkatool_cmd.specs.RunWords.{RunCommand, run_entries, gas_amounts, arguments, reply_files, blobs}
 use Rattle.polkatool_cmd.specs.Values.{spelled_bytes}
 use Rattle.polkatool_cmd.specs.declared.argument.Argument.{Argument}
 use Rattle.polkatool_cmd.specs.declared.commands.RunCommand.{RunCommand as Asked}
@@ -19,6 +19,7 @@ run_counts_of found = record {
   entries = length (run_entries found);
   gas_amounts = length (gas_amounts found);
   arguments = length (arguments found);
+  reply_files = length (reply_files found);
   blobs = length (blobs found);
 }
 
@@ -27,8 +28,9 @@ pub record AreFirst (found : List Item) (values : RunValues) : Type 0 where
   pub entry : values.entry ≡ slice_get (run_entries found) 0
   pub gas : values.gas ≡ slice_get (gas_amounts found) 0
   pub argument : option_map argument_bytes values.argument ≡ slice_get (arguments found) 0
+  pub replies : option_copied values.replies ≡ slice_get (reply_files found) 0
   pub blob : option_copied values.blob ≡ slice_get (blobs found) 0
 
 -- the run that was asked for
 abbrev pub run_in : Asked → RunCommand
-run_in c = record { entry = c.entry; gas = c.gas; argument = argument_bytes c.argument; blob = c.blob.now }
+run_in c = record { entry = c.entry; gas = c.gas; argument = argument_bytes c.argument; replies = option_copied c.replies; blob = c.blob.now }

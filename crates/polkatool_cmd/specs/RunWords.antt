@@ -2,7 +2,7 @@
 use Rattle.std.specs.Prelude.{ℕ, ◌^◌, List, [], length, Bool, ◌&&◌, ◌||◌, ◌==◌, nat_le, if◌then◌else◌, Option, None, is_some, unwrap_or, slice_get, codes, option_map, option_and_then}
 use Rattle.std.specs.List.{filter_map, list_all}
 use Rattle.polkatool_cmd.specs.Items.{Item, items, value_in, file_in}
-use Rattle.polkatool_cmd.specs.Values.{number_below, argument_of}
+use Rattle.polkatool_cmd.specs.Values.{name_of, number_below, argument_of}
 
 -- the entry that an item names, below 2^32
 abbrev pub run_entry_in : Item → Option ℕ
@@ -16,12 +16,17 @@ gas_in item = option_and_then (number_below (2 ^ 64)) (value_in (codes "--gas") 
 abbrev pub argument_in : Item → Option (List ℕ)
 argument_in item = option_and_then argument_of (value_in (codes "--arg") item)
 
+-- the file of replies that an item names
+abbrev pub replies_in : Item → Option (List ℕ)
+replies_in item = option_and_then name_of (value_in (codes "--replies") item)
+
 -- whether an item is one of these, or names a file
 abbrev pub is_of_run : Item → Bool
 is_of_run item =
-    is_some (run_entry_in item) || is_some (gas_in item) || is_some (argument_in item) || is_some (file_in item)
+    is_some (run_entry_in item) || is_some (gas_in item) || is_some (argument_in item)
+    || is_some (replies_in item) || is_some (file_in item)
 
--- the entries, amounts of gas, arguments and blobs that items name, each in their order
+-- the entries, amounts of gas, arguments, files of replies and blobs that items name, each in their order
 abbrev pub run_entries : List Item → List ℕ
 run_entries = filter_map run_entry_in
 
@@ -30,6 +35,9 @@ gas_amounts = filter_map gas_in
 
 abbrev pub arguments : List Item → List (List ℕ)
 arguments = filter_map argument_in
+
+abbrev pub reply_files : List Item → List (List ℕ)
+reply_files = filter_map replies_in
 
 abbrev pub blobs : List Item → List (List ℕ)
 blobs = filter_map file_in
@@ -42,6 +50,7 @@ is_run found =
     && nat_le (length (run_entries found)) 1
     && nat_le (length (gas_amounts found)) 1
     && nat_le (length (arguments found)) 1
+    && nat_le (length (reply_files found)) 1
 
 -- the entry, the gas and the argument of a run by default
 abbrev pub default_entry : ℕ
@@ -53,11 +62,12 @@ default_gas = 10000000
 abbrev pub default_argument : List ℕ
 default_argument = []
 
--- A run: of the blob in a file, from an entry, with gas and an argument.
+-- A run: of the blob in a file, from an entry, with gas, an argument and a file of replies, if one is named.
 pub record RunCommand : Type 0 where
   pub entry : ℕ
   pub gas : ℕ
   pub argument : List ℕ
+  pub replies : Option (List ℕ)
   pub blob : List ℕ
 
 -- the run of items, with a blob
@@ -66,6 +76,7 @@ run_command_with found blob = record {
   entry = unwrap_or (slice_get (run_entries found) 0) default_entry;
   gas = unwrap_or (slice_get (gas_amounts found) 0) default_gas;
   argument = unwrap_or (slice_get (arguments found) 0) default_argument;
+  replies = slice_get (reply_files found) 0;
   blob = blob;
 }
 

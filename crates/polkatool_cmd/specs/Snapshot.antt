@@ -1,6 +1,7 @@
 -- What stands outside the program, as contracts see it, and how a file is read from it.
 use Rattle.std.specs.Prelude.{◌≡◌, ◌≤◌, ◌⊎◌, ℕ, List, Option}
 use Rattle.outside.specs.Outside.{Files, Rose, Missing, AnswersWrite}
+pub use Rattle.transcript.specs.Telling.{Stream}
 use Rattle.elf_objects.specs.declared.fault.Fault.{Fault}
 
 -- What the folder and out tell, and how many reads, writes and puts the outside has failed.
@@ -9,11 +10,6 @@ pub record Snapshot : Type 0 where
   pub reads : ℕ
   pub writes : ℕ
   pub out : Option (List ℕ)
-  pub puts : ℕ
-
--- What a stream tells, out or err, and how many puts on it the outside has failed.
-pub record Stream : Type 0 where
-  pub text : Option (List ℕ)
   pub puts : ℕ
 
 -- the name holds these bytes, where files are told: as after a write that succeeded

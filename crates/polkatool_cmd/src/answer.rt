@@ -11,7 +11,11 @@ pub(crate) enum Answer {
     Faulted,
     /// The program used up its gas, and its run was told.
     OutOfGas,
-    /// The file has this fault.
+    /// The program made a host call for which no reply was left, and its run was told.
+    Unanswered,
+    /// A reply was to be written where the program can't write, and the run was told.
+    BadReply,
+    /// A file has this fault.
     Refused(Fault),
     /// The words are a faulty command line.
     Usage,

@@ -12,11 +12,13 @@ pub(crate) enum Command<'a> {
     Disassemble(&'a str),
 }
 
-/// The run of a program from an entry with so much gas and an argument, by the name of its file.
+/// The run of a program from an entry with the given gas and an argument, by the names of its file and of that of the
+/// replies, if there is one.
 #[derive(Clone, Copy)]
 pub(crate) struct RunCommand<'a> {
     pub entry: u32,
     pub gas: u64,
     pub argument: Argument<'a>,
+    pub replies: Option<&'a str>,
     pub blob: &'a str,
 }

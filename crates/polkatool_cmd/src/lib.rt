@@ -31,7 +31,8 @@ mod link_words;
 mod link_words_tests;
 #[cfg(test)]
 mod memory_tests;
-mod output;
+#[cfg(test)]
+mod replies_tests;
 mod report;
 mod run;
 mod run_fault;
@@ -56,9 +57,10 @@ pub use words::Words;
 ///
 /// The words are `link` and, in any order, `-o OUT`, `-e NAME` and `-i NAME=NUMBER` or `-i NAME=sbrk` any number of times,
 /// `--stack N`, and OBJ once or more: the objects in the files OBJ are linked into the file OUT with the entries of these
-/// names, `main` without any, and the map is put on out. Or they are `run` and, in any order, BLOB, `--entry I`, `--gas N`
-/// and `--arg HEX`: the container in the file BLOB is run from entry I, 0 without it, with gas N, 10,000,000 without it, and
-/// with the bytes that the digits HEX spell as its argument, none without it, and the transcript of the run is put on out.
+/// names, `main` without any, and the map is put on out. Or they are `run` and, in any order, BLOB, `--entry I`, `--gas N`,
+/// `--arg HEX` and `--replies FILE`: the container in the file BLOB is run from entry I, by default 0, with gas N, by default
+/// 10,000,000, with the bytes that the digits HEX spell as its argument, by default none, and with the lines of FILE as
+/// replies to its host calls, by default none; the transcript of the run is put on out while it runs.
 /// Or they are `check BLOB`: where the container's program has no fault, `ok` and a line feed are put on out. Or
 /// `disassemble BLOB`: the text of the program is put on out, whatever a check would say. All other words are a faulty
 /// command line, for which no memory is taken.

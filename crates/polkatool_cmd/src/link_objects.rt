@@ -120,7 +120,7 @@ fn read_files<F: Folder>(alloc: Global, names: &[&str], files: &mut F) -> Result
 }
 
 /// Reads the file with a number in the order of reading, where so many bytes are left for it.
-fn read_file<F: Folder>(
+pub(crate) fn read_file<F: Folder>(
     alloc: Global,
     name: &str,
     number: u32,

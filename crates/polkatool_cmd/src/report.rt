@@ -2,7 +2,8 @@
 
 ghost use Rattle.std.specs.Prelude.{◌≡◌, ◌+◌, ◌≤◌, ◌++◌, length};
 ghost use Rattle.arrayvec.specs.ArrayString.{array_string_len};
-ghost use Rattle.polkatool_cmd.specs.Lines.{number_field, refused_line as refused_line_of};
+ghost use Rattle.transcript.specs.Lines.{number_field};
+ghost use Rattle.polkatool_cmd.specs.Lines.{refused_line as refused_line_of};
 ghost use Rattle.polkatool_cmd.specs.Answers.{Puts, Reports};
 
 use crate::answer::Answer;
@@ -20,7 +21,7 @@ const FILE_FAULT: &str = "polkatool: file fault\n";
 const OUT_OF_MEMORY: &str = "polkatool: out of memory\n";
 
 /// Room for the longest line.
-pub(crate) const LINE_LEN: usize = 256;
+const LINE_LEN: usize = 256;
 
 /// Room for the digits of a number.
 const NUMBER_LEN: usize = 40;
@@ -45,6 +46,8 @@ pub(crate) fn report<E: Sink>(answer: Answer, err: &mut E) -> Status
         Answer::Panicked => Status::Panicked,
         Answer::Faulted => Status::Faulted,
         Answer::OutOfGas => Status::OutOfGas,
+        Answer::Unanswered => Status::Unanswered,
+        Answer::BadReply => Status::BadReply,
         Answer::Refused(fault) => put_line(refused_line(&fault).as_str(), Status::Refused, err),
         Answer::Usage => put_line(USAGE, Status::Usage, err),
         Answer::FileFault => put_line(FILE_FAULT, Status::FileFault, err),
@@ -81,7 +84,7 @@ fn refused_line(fault: &Fault) -> ArrayString<LINE_LEN>
 }
 
 /// Adds a label and a number in decimal to a line.
-pub(crate) fn push_field(label: &str, number: u64, line: &mut ArrayString<LINE_LEN>)
+fn push_field(label: &str, number: u64, line: &mut ArrayString<LINE_LEN>)
     requires { array_string_len line.old + length label.now + NUMBER_LEN ≤ LINE_LEN }
     ensures text { line.new.bytes ≡ line.old.bytes ++ number_field label.now number }
     ensures len { array_string_len line.new ≤ array_string_len line.old + length label.now + NUMBER_LEN }

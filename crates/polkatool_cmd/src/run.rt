@@ -1,33 +1,34 @@
-//! From the bytes of a container to the transcript of its run.
+//! From the bytes of a container and of a file of replies to the transcript of a run.
 
-ghost use Rattle.std.specs.Prelude.{◌≡◌, ◌^◌, ◌≤◌, ◌++◌, Some, length, IfOk, OnOk, OnErr, MatchResult, codes};
-ghost use Rattle.std.specs.Io.KnownBytes.{Appends};
-ghost use Rattle.machine_state.specs.Output.{output};
-ghost use Rattle.outside.specs.Outside.{AppendsFront, HasCause};
-ghost use Rattle.pvm_machine.specs.Stepped.{HasCall};
-ghost use Rattle.pvm_machine.specs.Ran.{run_of};
-ghost use Rattle.disasm.specs.Digits.{hex, hex_digits};
+ghost use Rattle.std.specs.Prelude.{◌≡◌, ◌≤◌, ◌^◌, Some, length, OnOk, MatchResult, option_copied};
+ghost use Rattle.machine_state.specs.State.{State};
+ghost use Rattle.pvm_machine.specs.Ran.{run_with};
+ghost use Rattle.transcript.specs.Ends.{end_of};
+ghost use Rattle.transcript.specs.Hosts.{replying, start_host};
 ghost use Rattle.polkatool_cmd.specs.Commands.{Run};
 ghost use Rattle.polkatool_cmd.specs.RunRead.{run_in};
-ghost use Rattle.polkatool_cmd.specs.Transcript.{end_line, gas_line};
+ghost use Rattle.polkatool_cmd.specs.RunFaults.{bad_reply_line as bad_reply_line_of};
 ghost use Rattle.polkatool_cmd.specs.Statuses.{status_of};
 ghost use Rattle.polkatool_cmd.specs.Answers.{ComesTo};
-ghost use Rattle.polkatool_cmd.specs.Running.{Starts, FailsToStart, IsEnd, Tells, EndsAs, end_of_exit};
+ghost use Rattle.polkatool_cmd.specs.Running.{HasReplies, FailsToReadReplies, Starts, FailsToStart, Tells, EndsAs};
 
 use crate::answer::Answer;
-use crate::blob::{blob_fault, read_blob};
+use crate::blob::{blob_fault, blob_fault_at, read_blob};
 use crate::commands::RunCommand;
-use crate::fault_codes::{ARGUMENT_TOO_LARGE, BAD_ENTRY};
-use crate::output::{put_bytes, put_range};
-use crate::report::push_field;
+use crate::fault_codes::{ARGUMENT_TOO_LARGE, BAD_ENTRY, BAD_REPLY_LINE};
+use crate::link_objects::read_file;
 use crate::run_fault::{RunFault, unbuilt_form};
-use arrayvec::ArrayString;
 use blob_codec::Container;
-use outside::{Failed, Folder, Sink};
-use pvm_machine::{Exit, Machine, StartFault};
+use elf_objects::Fault;
+use outside::{Bytes, Folder, Sink};
+use pvm_machine::{Machine, StartFault};
 use std::alloc::Global;
+use transcript::{Replies, ReplyFault, RunEnd, TellFault, tell};
 
-/// Runs the program of one file, and puts the transcript of its run.
+/// The most bytes of a file of replies, 2^20.
+const REPLIES_LIMIT: u32 = 1 << 20;
+
+/// Runs the program of one file, with the replies of another, and puts the transcript of its run while it runs.
 pub(crate) fn run<F: Folder, O: Sink>(
     alloc: Global,
     command: &RunCommand<'_>,
@@ -55,22 +56,58 @@ pub(crate) fn run<F: Folder, O: Sink>(
         Ok(file) => file,
         Err(answer) => return answer,
     };
+    let lines = match read_replies(alloc, command.replies, files) {
+        Ok(lines) => lines,
+        Err(answer) => return answer,
+    };
+    let replies = match Replies::read(alloc, lines.as_slice()) {
+        Ok(replies) => replies,
+        Err(ReplyFault::BadLine(line)) => return Answer::Refused(bad_reply_line(line)),
+        Err(ReplyFault::Memory) => return Answer::Memory,
+    };
     match start(alloc, file.as_slice(), command) {
-        Ok(mut machine) => finish(&mut machine, out),
+        Ok(mut machine) => finish(&mut machine, &replies, out),
         Err(RunFault::Bad(fault)) => Answer::Refused(fault),
         Err(RunFault::Memory) => Answer::Memory,
     }
 }
 
-/// The machine that a command asks for, of the container that a file of at most 2^27 bytes is.
+/// The bytes of the file of replies, which is the second to be read. Without one there are none.
+///
+/// # Errors
+/// The answer of the command: a file fault, a refusal of too many bytes, or want of memory.
+fn read_replies<F: Folder>(
+    alloc: Global,
+    name: Option<&str>,
+    files: &mut F,
+) -> Result<Bytes, Answer>
+    ensures read { MatchResult result
+        (HasReplies (F.files files.old) (option_copied name.entry))
+        (FailsToReadReplies (F.files files.old) (option_copied name.entry) (F.read_faults files.old) (F.read_faults files.new)) }
+    ensures reads { OnOk result (F.read_faults files.new ≡ F.read_faults files.old) }
+    ensures files { F.files files.new ≡ F.files files.old }
+    ensures writes { F.write_faults files.new ≡ F.write_faults files.old }
+{
+    match name {
+        Some(name) => read_file(alloc, name, 1, REPLIES_LIMIT, files),
+        None => Ok(Bytes::new(alloc)),
+    }
+}
+
+/// The fault of a line that is no reply.
+fn bad_reply_line(line: u32) -> Fault
+    ensures { result ≡ bad_reply_line_of line }
+{
+    blob_fault_at(BAD_REPLY_LINE, u64::from(line))
+}
+
+/// The machine that a command asks for, of the container that a file is.
 fn start<'a>(
     alloc: Global,
     file: &'a [u8],
     command: &RunCommand<'_>,
 ) -> Result<Machine<'a>, RunFault>
-    requires { length file.now ≤ 2 ^ 27 }
-    ensures starts { MatchResult result (Starts file.now (run_in command.now)) (FailsToStart file.now (run_in command.now)) }
-    ensures calls { IfOk result (λ m. HasCall m.code → ⊥) }
+    ensures { MatchResult result (Starts file.now (run_in command.now)) (FailsToStart file.now (run_in command.now)) }
 {
     let container = Container::read(file)?;
     if let Some(fault) = unbuilt_form(&container) {
@@ -91,115 +128,29 @@ fn start<'a>(
     }
 }
 
-/// Runs a machine whose code calls no host to its end, and puts the transcript.
-fn finish<O: Sink>(machine: &mut Machine<'_>, out: &mut O) -> Answer
-    requires { HasCall machine.old.code → ⊥ }
-    ensures { Tells (run_of machine.old) result
+/// Runs a machine to its end, with replies to its calls, and puts the transcript.
+fn finish<O: Sink>(machine: &mut Machine<'_>, replies: &Replies, out: &mut O) -> Answer
+    ensures { Tells (run_with replying (start_host replies.now) machine.old) machine.new result
         (record { text = O.bytes out.old; puts = O.faults out.old })
         (record { text = O.bytes out.new; puts = O.faults out.new }) }
 {
-    let exit = machine.run();
-    if let Exit::Memory = exit {
-        return Answer::Memory;
-    }
-    let answer = match put_end(machine, exit, out) {
-        Ok(answer) => answer,
-        Err(_) => return Answer::FileFault,
-    };
-    match put_gas(machine.gas(), out) {
-        Ok(()) => answer,
-        Err(_) => Answer::FileFault,
+    match tell(machine, replies, out) {
+        Ok(end) => answer_of(end),
+        Err(TellFault::Failed) => Answer::FileFault,
+        Err(TellFault::Memory) => Answer::Memory,
     }
 }
 
-/// Puts the line of an end.
-#[tactic(auto, unfolding(crate::specs::Transcript::end_line))]
-fn put_end<O: Sink>(machine: &Machine<'_>, exit: Exit, out: &mut O) -> Result<Answer, Failed>
-    requires { IsEnd exit }
-    ensures ends { IfOk result (λ answer. EndsAs answer (status_of (end_of_exit exit machine.now.state))) }
-    ensures ok { OnOk result
-        (Appends (O.bytes out.old) (O.bytes out.new) (end_line (end_of_exit exit machine.now.state))) }
-    ensures err { OnErr result
-        (AppendsFront (O.bytes out.old) (O.bytes out.new) (end_line (end_of_exit exit machine.now.state))) }
-    ensures cause { HasCause (O.faults out.old) (O.faults out.new) result }
+/// The answer of a run with this end.
+fn answer_of(end: RunEnd) -> Answer
+    ensures { (s : State) → EndsAs result (status_of (end_of end s)) }
 {
-    match exit {
-        Exit::Halt => {
-            put_halt(machine, out)?;
-            Ok(Answer::Done)
-        }
-        Exit::Panic => {
-            out.put(b"panic\n")?;
-            Ok(Answer::Panicked)
-        }
-        Exit::Fault(address) => {
-            put_fault(address, out)?;
-            Ok(Answer::Faulted)
-        }
-        Exit::OutOfGas => {
-            out.put(b"out-of-gas\n")?;
-            Ok(Answer::OutOfGas)
-        }
-        Exit::Host(_) | Exit::Memory => unreachable!(),
+    match end {
+        RunEnd::Halt => Answer::Done,
+        RunEnd::Panic => Answer::Panicked,
+        RunEnd::Fault(_) => Answer::Faulted,
+        RunEnd::OutOfGas => Answer::OutOfGas,
+        RunEnd::Unanswered(_) => Answer::Unanswered,
+        RunEnd::BadReply { .. } => Answer::BadReply,
     }
-}
-
-/// Puts the line of a halt, which has the output.
-fn put_halt<O: Sink>(machine: &Machine<'_>, out: &mut O) -> Result<(), Failed>
-    ensures ok { OnOk result
-        (Appends (O.bytes out.old) (O.bytes out.new)
-        (codes "halt output=" ++ hex (output machine.now.state.registers machine.now.state.memory) ++ codes "\n")) }
-    ensures err { OnErr result
-        (AppendsFront (O.bytes out.old) (O.bytes out.new)
-        (codes "halt output=" ++ hex (output machine.now.state.registers machine.now.state.memory) ++ codes "\n")) }
-    ensures cause { HasCause (O.faults out.old) (O.faults out.new) result }
-{
-    out.put(b"halt output=")?;
-    put_output(machine, out)?;
-    out.put(b"\n")?;
-    Ok(())
-}
-
-/// Puts the output in hexadecimal.
-fn put_output<O: Sink>(machine: &Machine<'_>, out: &mut O) -> Result<(), Failed>
-    ensures ok { OnOk result
-        (Appends (O.bytes out.old) (O.bytes out.new)
-        (hex (output machine.now.state.registers machine.now.state.memory))) }
-    ensures err { OnErr result
-        (AppendsFront (O.bytes out.old) (O.bytes out.new)
-        (hex (output machine.now.state.registers machine.now.state.memory))) }
-    ensures cause { HasCause (O.faults out.old) (O.faults out.new) result }
-{
-    match machine.output_range() {
-        Some((at, len)) => put_range(machine.memory(), at, len, out),
-        None => Ok(()),
-    }
-}
-
-/// Puts the line of a page fault, which has the address in eight digits.
-fn put_fault<O: Sink>(address: u32, out: &mut O) -> Result<(), Failed>
-    ensures ok { OnOk result
-        (Appends (O.bytes out.old) (O.bytes out.new)
-        (codes "fault address=" ++ hex_digits 8 address ++ codes "\n")) }
-    ensures err { OnErr result
-        (AppendsFront (O.bytes out.old) (O.bytes out.new)
-        (codes "fault address=" ++ hex_digits 8 address ++ codes "\n")) }
-    ensures cause { HasCause (O.faults out.old) (O.faults out.new) result }
-{
-    out.put(b"fault address=")?;
-    put_bytes(&address.to_be_bytes(), out)?;
-    out.put(b"\n")?;
-    Ok(())
-}
-
-/// Puts the line of the gas that is left.
-fn put_gas<O: Sink>(gas: u64, out: &mut O) -> Result<(), Failed>
-    ensures ok { OnOk result (Appends (O.bytes out.old) (O.bytes out.new) (gas_line gas)) }
-    ensures err { OnErr result (AppendsFront (O.bytes out.old) (O.bytes out.new) (gas_line gas)) }
-    ensures cause { HasCause (O.faults out.old) (O.faults out.new) result }
-{
-    let mut line = ArrayString::new();
-    push_field("gas left=", gas, &mut line);
-    line.push_str("\n");
-    out.put(line.as_bytes())
 }

@@ -16,15 +16,15 @@ const OF_LONG_OUTPUT: [u8; 30] = [
 /// The program of `examples/five`, whose code is `jump 5`, `load_imm a0, 5` and `jump_ind ra, 0`.
 pub(crate) const FIVE: &[u8; 15] = b"\x00\x01\x0a\x28\x05\0\0\0\x33\x07\x05\x32\0\x21\x01";
 
-/// A program whose code is `load_imm a0, 5` and, at position 3, `ecalli 0`.
-const OF_A_CALL: &[u8; 9] = b"\x00\x01\x05\x33\x07\x05\x0a\0\x09";
+/// A program whose code is `load_imm a0, 5` and, at position 3, `ecalli 8`.
+const OF_A_CALL: &[u8; 9] = b"\x00\x01\x05\x33\x07\x05\x0a\x08\x09";
 
 /// A program whose code is `load_imm a0, 5` and, at position 3, `sbrk a0, a0`. Behind it the code ends.
 const OF_GROWTH: &[u8; 9] = b"\x00\x01\x05\x33\x07\x05\x65\x77\x09";
 
 /// Its container has a byte of read-only data.
 pub(crate) const OF_READ_ONLY_DATA: [u8; 25] = [
-    1, 0, 0, 0, 0, 0, 0, 0, 0, 0, 1, 0x2a, 0x09, 0, 0, 0, 0, 0x01, 0x05, 0x33, 0x07, 0x05, 0x0a, 0,
+    1, 0, 0, 0, 0, 0, 0, 0, 0, 0, 1, 0x2a, 0x09, 0, 0, 0, 0, 0x01, 0x05, 0x33, 0x07, 0x05, 0x0a, 8,
     0x09,
 ];
 
@@ -296,7 +296,7 @@ fn refuses_what_is_no_container(rt: HostRuntime) -> Result<(), Fail> {
     Ok(())
 }
 
-/// An opcode that isn't run is told where it stands, before an entry that isn't there. Data are no fault.
+/// A call on inner machines, which isn't supported yet, is reported where it stands, before an entry that isn't there. Data are no fault.
 #[test]
 fn refuses_what_is_not_built(rt: HostRuntime) -> Result<(), Fail> {
     let call = blob(rt.alloc(), 9, OF_A_CALL)?;
@@ -366,7 +366,7 @@ fn answers_faulty_numbers(rt: HostRuntime) -> Result<(), Fail> {
 
 #[test]
 fn answers_faulty_runs(rt: HostRuntime) -> Result<(), Fail> {
-    let lines: [&[&[u8]]; 13] = [
+    let lines: [&[&[u8]]; 15] = [
         &[b"run"],
         &[b"run", b""],
         &[b"run", b"\xff"],
@@ -379,7 +379,9 @@ fn answers_faulty_runs(rt: HostRuntime) -> Result<(), Fail> {
         &[b"run", b"b", b"--entry"],
         &[b"run", b"--gas", b"3", b"--gas", b"3", b"b"],
         &[b"run", b"--entry", b"0", b"b", b"--entry", b"0"],
-        &[b"run", b"b", b"--replies", b"b"],
+        &[b"run", b"b", b"--replies"],
+        &[b"run", b"b", b"--replies", b""],
+        &[b"run", b"b", b"--replies", b"r", b"--replies", b"r"],
     ];
     for line in lines {
         assert!(rt; is_faulty(rt.alloc(), line)?);

@@ -1,16 +1,16 @@
 //! The words of a run: its options in any order, and a blob.
 
-ghost use Rattle.std.specs.Prelude.{◌≡◌, Some, None, if◌then◌else◌, option_map};
+ghost use Rattle.std.specs.Prelude.{◌≡◌, Some, None, if◌then◌else◌, option_copied, option_map};
 ghost use Rattle.std.specs.List.{list_all};
 ghost use Rattle.polkatool_cmd.specs.Items.{items};
 ghost use Rattle.polkatool_cmd.specs.ItemRead.{item_of};
-ghost use Rattle.polkatool_cmd.specs.RunWords.{run_entry_in, gas_in, argument_in, is_of_run, is_run, run_command_of};
+ghost use Rattle.polkatool_cmd.specs.RunWords.{run_entry_in, gas_in, argument_in, replies_in, is_of_run, is_run, run_command_of};
 ghost use Rattle.polkatool_cmd.specs.RunRead.{argument_bytes, run_counts_of, AreFirst, run_in};
 
 use crate::argument::Argument;
 use crate::commands::RunCommand;
 use crate::items::{Item, count_with, first_item};
-use crate::values::{number, small_number};
+use crate::values::{name, number, small_number};
 use outside::Bytes;
 
 /// The entry of a run by default.
@@ -25,6 +25,7 @@ pub(crate) struct RunCounts {
     pub entries: usize,
     pub gas_amounts: usize,
     pub arguments: usize,
+    pub reply_files: usize,
     pub blobs: usize,
 }
 
@@ -34,6 +35,7 @@ pub(crate) struct RunValues<'a> {
     pub entry: Option<u32>,
     pub gas: Option<u64>,
     pub argument: Option<Argument<'a>>,
+    pub replies: Option<&'a str>,
     pub blob: Option<&'a str>,
 }
 
@@ -49,6 +51,7 @@ pub(crate) fn run_command(words: &[Bytes]) -> Option<RunCommand<'_>>
         entry: values.entry.unwrap_or(DEFAULT_ENTRY),
         gas: values.gas.unwrap_or(DEFAULT_GAS),
         argument: values.argument.unwrap_or(Argument::empty()),
+        replies: values.replies,
         blob: values.blob?,
     })
 }
@@ -60,7 +63,11 @@ fn is_run(words: &[Bytes]) -> bool
     let Some(counts) = run_counts(words) else {
         return false;
     };
-    counts.blobs == 1 && counts.entries <= 1 && counts.gas_amounts <= 1 && counts.arguments <= 1
+    counts.blobs == 1
+        && counts.entries <= 1
+        && counts.gas_amounts <= 1
+        && counts.arguments <= 1
+        && counts.reply_files <= 1
 }
 
 /// How many items of each kind words have. None where an item is not of a run.
@@ -72,6 +79,7 @@ fn run_counts(words: &[Bytes]) -> Option<RunCounts>
         entries: 0,
         gas_amounts: 0,
         arguments: 0,
+        reply_files: 0,
         blobs: 0,
     };
     let mut rest = words;
@@ -82,6 +90,7 @@ fn run_counts(words: &[Bytes]) -> Option<RunCounts>
         counts.entries = count_with(counts.entries, item.run_entry().is_some());
         counts.gas_amounts = count_with(counts.gas_amounts, item.gas().is_some());
         counts.arguments = count_with(counts.arguments, item.argument().is_some());
+        counts.reply_files = count_with(counts.reply_files, item.replies().is_some());
         counts.blobs = count_with(counts.blobs, item.file().is_some());
         rest = behind;
     }
@@ -96,6 +105,7 @@ fn first_values(words: &[Bytes]) -> RunValues<'_>
         entry: None,
         gas: None,
         argument: None,
+        replies: None,
         blob: None,
     };
     let mut rest = words;
@@ -104,6 +114,7 @@ fn first_values(words: &[Bytes]) -> RunValues<'_>
             entry: values.entry.or(item.run_entry()),
             gas: values.gas.or(item.gas()),
             argument: values.argument.or(item.argument()),
+            replies: values.replies.or(item.replies()),
             blob: values.blob.or(item.file()),
         };
         rest = behind;
@@ -112,13 +123,14 @@ fn first_values(words: &[Bytes]) -> RunValues<'_>
 }
 
 impl<'a> Item<'a> {
-    /// Whether the item is an entry, gas, an argument or a blob.
+    /// Whether the item is an entry, gas, an argument, a file of replies or a blob.
     fn is_of_run(&self) -> bool
         ensures { result ≡ is_of_run (item_of self.now) }
     {
         self.run_entry().is_some()
             || self.gas().is_some()
             || self.argument().is_some()
+            || self.replies().is_some()
             || self.file().is_some()
     }
 
@@ -141,5 +153,12 @@ impl<'a> Item<'a> {
         ensures { option_map argument_bytes result ≡ argument_in (item_of self.now) }
     {
         Argument::read(self.value(b"--arg")?)
+    }
+
+    /// The name of a file of replies.
+    fn replies(&self) -> Option<&'a str>
+        ensures { option_copied result ≡ replies_in (item_of self.now) }
+    {
+        name(self.value(b"--replies")?)
     }
 }

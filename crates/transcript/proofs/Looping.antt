@@ -1,11 +1,12 @@
 -- The loop that runs a machine and answers its calls by replies.
-use Rattle.std.proofs.Common.{◌≡◌, ℕ, zero, suc, ◌+◌, ◌-◌, ◌<◌, ◌≤◌, List, [], ◌∷◌, ◌++◌, length, drop, slice_get, Option, Some, None, Ok, Err, refl, ap, sym, ◌∙◌, subst, arith, append_assoc}
+use Rattle.std.proofs.Common.{◌≡◌, ℕ, zero, suc, ◌+◌, ◌-◌, ◌<◌, ◌≤◌, List, [], ◌∷◌, ◌++◌, length, take, drop, slice_get, Option, Some, None, Ok, Err, refl, ap, sym, ◌∙◌, subst, arith, append_assoc}
 use Rattle.std.specs.Io.KnownBytes.{Appends}
 use Rattle.std.proofs.KnownBytes.{Appends-nil, Appends-trans}
 use Rattle.std.proofs.lemmas.Grind.{flat_map-append}
 use Rattle.std.proofs.lemmas.List.{append-nil}
+use Rattle.std.proofs.Math.Seq.{take-append_seam}
 use Rattle.std.specs.FinMap as finite
-use Rattle.runs.specs.Runs.{Paid, paid}
+use Rattle.runs.specs.Runs.{Paid, paid, pay_run}
 use Rattle.runs.proofs.Fuel.{CameTo, comes_first, paid_paid}
 use Rattle.machine_state.specs.Ends.{Event, End, Answered, Ended, Unanswered, BadReply, event}
 use Rattle.outside.specs.Outside.{Rose, AppendsFront}
@@ -77,6 +78,18 @@ module _ (replies : List Reply) (first : Machine) (old : Stream) (given : ℕ) (
   same_run =
       sym (ap (λ t. whole_run replies (record first { table = t; code = m.code })) so.table ∙ ap (λ c. whole_run replies (record first { code = c })) so.code)
 
+  -- what was put is a prefix of the transcript, however the run goes on
+  put_before : AppendsFront old.text now.text (transcript (whole_run replies first))
+  put_before =
+      let run = whole_run replies first in
+      let last = last_lines run.end run.left in
+      let rest = (pay_run (machine_step replying m.table m.code) m.gas (standing m (left_of replies given))).events in
+      let lines : transcript run ≡ event_lines so.events ++ (event_lines rest ++ last) =
+      ap (λ l. event_lines l ++ last) (ap (λ (r : Paid Event End). r.events) (same_run ∙ so.came))
+      ∙ ap (λ l. l ++ last) (flat_map-append event_line so.events rest)
+      ∙ append_assoc (event_lines so.events) (event_lines rest) last in
+      (length (event_lines so.events), subst (Appends old.text now.text) (sym (ap (take (length (event_lines so.events))) lines ∙ take-append_seam (event_lines so.events) (event_lines rest ++ last))) so.told)
+
   -- an allocation fails
   pub stops : (next : Machine) → IsRunWith replying (left_of replies given) m next answer.Memory → MapsPages next → IsStopped (whole_run replies first) next old now
   stops next ran maps = record {
@@ -91,6 +104,7 @@ module _ (replies : List Reply) (first : Machine) (old : Stream) (given : ℕ) (
         ∙ ap (λ l. paid l (so.begun + (m.gas - next.gas)) (run_with replying (left_of replies given) next)) (append-nil so.events);
     maps = maps;
     told = so.told;
+    front = put_before;
     puts = so.puts;
   }
 

@@ -25,7 +25,7 @@ pub record IsCutOff (run : Paid Event End) (old new : Stream) : Type 0 where
   pub cause : Rose old.puts new.puts
 
 -- An allocation failed at an `sbrk` that would map pages, where the machine stands now; the lines of the calls before it
--- were put.
+-- were put, a prefix of the transcript.
 pub record IsStopped (run : Paid Event End) (m : Machine) (old new : Stream) : Type 0 where
   pub events : List Event
   pub begun : ℕ
@@ -33,6 +33,7 @@ pub record IsStopped (run : Paid Event End) (m : Machine) (old new : Stream) : T
   pub came : run ≡ paid events begun (run_with replying held m)
   pub maps : MapsPages m
   pub told : Appends old.text new.text (event_lines events)
+  pub front : AppendsFront old.text new.text (transcript run)
   pub puts : new.puts ≡ old.puts
 
 abbrev pub FailsToTell : Paid Event End → Machine → TellFault → Stream → Stream → Type 0

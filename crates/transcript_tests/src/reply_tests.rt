@@ -1,6 +1,7 @@
+use crate::fixtures::short_replies;
 use std::alloc::Global;
 use std::test::*;
-use transcript::{Replies, ReplyFault};
+use transcript::ReplyFault;
 
 /// Files, and how many replies they are or their first bad line.
 const FILES: [(&str, Result<u32, u32>); 20] = [
@@ -39,7 +40,7 @@ fn files_are_lists_of_replies(rt: HostRuntime) -> Result<(), Fail> {
 
 /// How many replies a file is, or its first bad line.
 fn count_or_line(alloc: Global, file: &str) -> Result<u32, u32> {
-    match Replies::read(alloc, file.as_bytes()) {
+    match short_replies(alloc, file) {
         Ok(replies) => Ok(replies.len()),
         Err(ReplyFault::BadLine(line)) => Err(line),
         Err(ReplyFault::Memory) => Err(0),

@@ -1,10 +1,11 @@
+use crate::fixtures::short_replies;
 use blob_codec::Container;
 use outside::MemorySink;
 use pvm_machine::Machine;
 use std::alloc::Global;
 use std::process::Abort;
 use std::test::*;
-use transcript::{Replies, RunEnd, tell};
+use transcript::{RunEnd, tell};
 
 /// A container with a stack of 2^16 bytes, whose code is `jump 5`, `ecalli 7` and `jump_ind ra, 0`.
 const CALLS: [u8; 29] = [
@@ -62,7 +63,7 @@ fn run_one(
     let container = Container::read(&CALLS)?;
     let mut machine = Machine::start(alloc, &container, 0, &[], gas)?;
     let mut out = MemorySink::new(alloc, 400)?;
-    let replies = Replies::read(alloc, file.as_bytes())?;
+    let replies = short_replies(alloc, file)?;
     assert_eq!(rt; tell(&mut machine, &replies, &mut out), Ok(end));
     assert!(rt; out.bytes().starts_with(CALL.as_bytes()));
     assert!(rt; out.bytes().ends_with(text.as_bytes()));

@@ -1,27 +1,43 @@
-use Rattle.std.proofs.Common.{rules, sym, ap, subst}
-use Rattle.pvm_machine.specs.Ran.{run_of}
+use Rattle.std.proofs.Common.{rules, ◌≤◌, ◌^◌, List, ℕ, length, Option, None, sym, ap, subst, arith}
+use Rattle.pvm_machine.specs.Ran.{run_with}
+use Rattle.transcript.specs.Hosts.{replying, start_host}
 use Rattle.polkatool_cmd.specs.Answers.{HoldsRun}
 use Rattle.polkatool_cmd.specs.RunRead.{run_in}
+use Rattle.polkatool_cmd.specs.Running.{HoldsReplies}
 use Rattle.polkatool_cmd.specs.Snapshot.{Holds}
 use Rattle.polkatool_cmd.proofs.Answering.{RunComesTo-told}
-use Rattle.polkatool_cmd.proofs.Blobs.{RunComesTo-unread}
+use Rattle.polkatool_cmd.proofs.Blobs.{RunComesTo-unread, RunComesTo-no_replies}
+use Rattle.polkatool_cmd.proofs.RunFaults.{run_fault-start}
 use Rattle.polkatool_cmd.proofs.run.run.Goals as goal
 
 pub returns-in-Err-clause-comes : goal.returns-in-Err-clause-comes
 returns-in-Err-clause-comes g c = RunComesTo-unread (run_in c.args.command.now) _ _ _ c.in-Err.ensures.read (search rules)
 
+pub returns-in-Err-read_replies-clause-comes : goal.returns-in-Err-read_replies-clause-comes
+returns-in-Err-read_replies-clause-comes g c =
+    RunComesTo-no_replies (run_in c.args.command.now) _ _ _ c.in-Ok.file c.in-Ok.ensures.read
+    (rw (c.in-Ok.ensures.files, c.in-Ok.ensures.reads) at c.in-Err-read_replies.ensures.read) (search rules)
+
 pub returns-in-Ok-start-clause-comes : goal.returns-in-Ok-start-clause-comes
 returns-in-Ok-start-clause-comes g c =
     let asked = run_in c.args.command.now in
-    let starts = c.in-Ok-start.ensures.starts in
-    let holds : HoldsRun (g.F.Folder.files c.args.files.now) asked (run_of c.in-Ok-start.machine) = record {
+    let files = g.F.Folder.files c.args.files.now in
+    let starts = c.in-Ok-start.ensures in
+    let blob = c.as_slice-2.result.now in
+    let file = c.as_slice.result.now in
+    let replies = c.in-Ok-read.replies in
+    let fits : length blob ≤ 2 ^ 27 = omega (arith, ap length c.as_slice-2.ensures, c.in-Ok.ensures.read.len) in
+    let short : length file ≤ 2 ^ 20 = omega (arith, ap length c.as_slice.ensures, c.in-Ok-read_replies.ensures.read.len) in
+    let holds : HoldsRun files asked (run_with replying (start_host replies) c.in-Ok-start.machine) = record {
+      blob = blob;
+      blob_held = subst (Holds files asked.blob) (sym c.as_slice-2.ensures) c.in-Ok.ensures.read.held;
+      file = file;
+      file_held = subst (HoldsReplies files asked.replies) (sym c.as_slice.ensures) (rw c.in-Ok.ensures.files at c.in-Ok-read_replies.ensures.read.held);
+      no_fault = run_fault-start asked.entry asked.argument blob file fits short replies None c.in-Ok-read.ensures starts.no_fault;
       container = starts.container;
-      holds = record {
-        file = c.as_slice.result.now;
-        held = subst (Holds (g.F.Folder.files c.args.files.now) asked.blob) (sym c.as_slice.ensures) c.in-Ok.ensures.read.held;
-        no_fault = starts.no_fault;
-        is_container = starts.is_container;
-      };
-      run_is = ap run_of starts.machine_is;
+      is_container = starts.is_container;
+      replies = replies;
+      are_replies = c.in-Ok-read.ensures;
+      run_is = ap (run_with replying (start_host replies)) starts.machine_is;
     } in
-    RunComesTo-told asked _ _ _ _ holds c.finish.ensures (search rules)
+    RunComesTo-told asked _ c.finish.new.machine _ _ _ holds c.finish.ensures (search rules)
