@@ -5,7 +5,6 @@ ghost use Rattle.std.specs.Option.{option_map};
 ghost use Rattle.symbols.specs.Laws.{HasSection};
 ghost use Rattle.symbols.specs.Wanted.{Given};
 ghost use Rattle.relocs.specs.Places.{Code, code_at};
-ghost use Rattle.relocs.specs.Kinds.{is_call as is_the_call, kind_of as the_kind};
 ghost use Rattle.relocs.specs.Sites.{IsCodeSection, HasSize};
 ghost use Rattle.relocs.specs.Words.{raw_at};
 ghost use Rattle.relocs.specs.Pairs.{relocations_at, is_none_of, has_call as the_has_call, can_call as may_call, is_pair_at as is_the_pair, is_second as is_the_second, next_place as the_next_place};
@@ -17,7 +16,7 @@ ghost use Rattle.lift_blocks.specs.CodeList.{section_places, object_places, code
 
 use crate::site::Site;
 use elf_objects::{Objects, Relocation, SectionKind};
-use relocs::{Kind, Tables, holds_auipc, joins, kind_of};
+use relocs::{Tables, holds_auipc, joins};
 use rv_decode::{Reg, RvOp};
 use std::alloc::AllocError;
 
@@ -59,6 +58,16 @@ impl Reader<'_, '_> {
         self.tables.at(self.objects, object, section, offset)
     }
 
+    /// Whether a CALL is at an offset of a code section.
+    fn has_call(&self, object: u32, section: u32, offset: u64) -> bool
+        ghost given: { Given }
+        requires tables { AreTables given self.now.objects.now self.now.tables.now }
+        requires section { IsCodeSection given object section }
+        ensures { result ≡ the_has_call (relocations_at given object section offset) }
+    {
+        self.tables.has_call(self.objects, object, section, offset)
+    }
+
     /// Whether a CALL may stand at an offset.
     pub(crate) fn can_call(&self, object: u32, section: u32, offset: u64) -> bool
         ghost given: { Given }
@@ -93,8 +102,7 @@ impl Reader<'_, '_> {
         requires room { offset + 4 < 2 ^ 64 }
         ensures { result ≡ is_the_pair given object section offset }
     {
-        self.can_call(object, section, offset)
-            && has_call(self.relocations(object, section, offset))
+        self.can_call(object, section, offset) && self.has_call(object, section, offset)
     }
 
     /// Whether the second word of a pair stands at an offset.
@@ -303,23 +311,4 @@ fn is_none(relocations: &[Relocation]) -> bool
     ensures { result ≡ is_none_of relocations.now }
 {
     relocations.is_empty()
-}
-
-/// Whether a relocation is a CALL.
-fn is_call(relocation: Relocation) -> bool
-    ensures { result ≡ is_the_call (the_kind relocation.kind) }
-{
-    matches!(kind_of(relocation.kind), Kind::Call)
-}
-
-/// Whether a CALL is among these.
-fn has_call(relocations: &[Relocation]) -> bool
-    ensures { result ≡ the_has_call relocations.now }
-{
-    for at in 0..relocations.len() {
-        if is_call(relocations[at]) {
-            return true;
-        }
-    }
-    false
 }

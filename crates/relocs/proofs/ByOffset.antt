@@ -1,7 +1,7 @@
 -- Relocations by offset: searches, and those at one offset.
-use Rattle.std.proofs.Common.{◌≡◌, ℕ, zero, suc, ◌+◌, ◌-◌, ◌<◌, ◌≤◌, Bool, true, false, List, [], ◌∷◌, length, take, drop, get_or, nat_cmp, ◌++◌, subst, inl, inr, ◌⊎◌, Option, Some, refl, sym, ap, ◌∙◌, arith}
-use Rattle.std.specs.Prelude.{slice_get, cond, if◌then◌else◌, pos}
-use Rattle.std.specs.List.{filter}
+use Rattle.std.proofs.Common.{◌≡◌, ℕ, zero, suc, ◌+◌, ◌-◌, ◌<◌, ◌≤◌, Bool, true, false, List, [], ◌∷◌, length, take, drop, get_or, nat_cmp, ◌++◌, subst, inl, inr, ◌⊎◌, Option, Some, None, refl, sym, ap, ◌∙◌, arith}
+use Rattle.std.specs.Prelude.{slice_get, cond, if◌then◌else◌, pos, IfSome}
+use Rattle.std.specs.List.{filter, find}
 use Rattle.std.specs.List.Sorted.{IsNonDecreasingBy, ties}
 use Rattle.std.specs.Ordering.{is_lt}
 use Rattle.std.proofs.lemmas.Option.{slice_get-get_or, slice_get_within}
@@ -9,7 +9,9 @@ use Rattle.std.proofs.lemmas.Bool.{cases_lt}
 use Rattle.elf_objects.specs.declared.parts.Relocation.{Relocation}
 use Rattle.elf_objects.specs.Objects.{Object}
 use Rattle.symbols.specs.Faults.{has_effect}
+use Rattle.relocs.specs.declared.found.Found.{Found}
 use Rattle.relocs.specs.Pairs.{stands_at}
+use Rattle.relocs.specs.Sites.{gives_high, found_of}
 use Rattle.relocs.specs.ByOffset.{changes_something, is_at, offset_of, IsBound, IsRow, AreNamed}
 
 some_same : {A : Type 0} {o : Option A} {x y : A} → o ≡ Some x → o ≡ Some y → x ≡ y
@@ -214,3 +216,18 @@ filter_again test (x ∷ xs) = by_head (test x) refl (filter_again test xs)
     by_head : (b : Bool) → test x ≡ b → filter test (filter test xs) ≡ filter test xs → filter test (filter test (x ∷ xs)) ≡ filter test (x ∷ xs)
     by_head true e rest = rw (e, e) (ap (λ l. x ∷ l) rest)
     by_head false e rest = rw e rest
+
+found_named : (of : Object) (relocations : List Relocation) → AreNamed of relocations → IfSome (find gives_high relocations) (λ r. r.symbol < length of.symbols)
+found_named of [] named = tt
+found_named of (r ∷ rs) named = by_test (gives_high r) (found_named of rs (record { each = λ i q e. named.each (suc i) q e }))
+  where
+    by_test : (b : Bool) → IfSome (find gives_high rs) (λ r. r.symbol < length of.symbols) → IfSome (cond b (Some r) (find gives_high rs)) (λ r. r.symbol < length of.symbols)
+    by_test true rest = named.each 0 r refl
+    by_test false rest = rest
+
+-- what is found at an offset names a symbol of the object
+pub named_high :
+    (of : Object) (test : Relocation → Bool) (table : List Relocation) (found : Found) → AreNamed of table → found ≡ found_of (filter test table)
+    → IfSome found.high (λ r. r.symbol < length of.symbols)
+named_high of test table found named is =
+    subst (λ high. IfSome high (λ r. r.symbol < length of.symbols)) (sym (ap (λ f. f.high) is)) (found_named of (filter test table) (named_part of test table (filter test table) named refl))

@@ -2,6 +2,7 @@ pub mod AllPlaces
 pub mod ByOffset
 pub mod CodeLimit
 pub mod CodeWords
+pub mod Crowded
 pub mod DataTables
 pub mod Examples
 pub mod FaultOrder
@@ -15,6 +16,7 @@ pub mod Lengths
 pub mod Named
 pub mod Nearby
 pub mod Numbers
+pub mod Parting
 pub mod Parts
 pub mod Putting
 pub mod Search

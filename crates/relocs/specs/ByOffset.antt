@@ -11,12 +11,17 @@ use Rattle.symbols.specs.Faults.{has_effect}
 use Rattle.symbols.specs.Laws.{HasSection}
 use Rattle.symbols.specs.Parts.{object_at, kind_at}
 use Rattle.symbols.specs.Wanted.{Given}
+use Rattle.relocs.specs.Kinds.{kind_of, is_call}
 use Rattle.relocs.specs.Pairs.{stands_at}
 use Rattle.relocs.specs.Places.{code_if}
+use Rattle.relocs.specs.Sites.{gives_high}
 use Rattle.relocs.specs.Words.{word_or_trap}
 
 abbrev pub changes_something : Relocation → Bool
 changes_something r = has_effect r.kind
+
+abbrev pub calls : Relocation → Bool
+calls r = is_call (kind_of r.kind)
 
 abbrev pub offset_of : Relocation → ℕ
 offset_of r = r.offset
@@ -44,9 +49,12 @@ pub record IsEffective (object : Object) (s : ℕ) (relocations : List Relocatio
   pub filtered : relocations ≡ filter changes_something (relocations_of object s)
   pub named : AreNamed object (relocations_of object s)
 
--- what is kept of a section: its relocations by offset, and of a code section the words and the size in bytes
+-- what is kept of a section: its relocations by offset, those of them that are a CALL and those that give an auipc its value,
+-- and of a code section the words and the size in bytes
 pub record Row : Type 0 where
   pub relocations : List Relocation
+  pub calls : List Relocation
+  pub highs : List Relocation
   pub words : List (Result RvOp WordFault)
   pub size : ℕ
 
@@ -76,9 +84,16 @@ pub record IsIndexOf (object : Object) (s : ℕ) (relocations : List Relocation)
   pub row_is : IsRow (relocations_of object s) relocations
   pub named : AreNamed object (relocations_of object s)
 
+-- the CALLs among the relocations, and those that give an auipc its value
+pub record HasParts (row : Row) : Type 0 where
+  pub rises : IsNonDecreasingBy offset_of row.relocations
+  pub calls_are : row.calls ≡ filter calls row.relocations
+  pub highs_are : row.highs ≡ filter gives_high row.relocations
+
 -- what is kept of a section of an object
 pub record IsRowOf (object : Object) (s : ℕ) (row : Row) : Type 0 where
   pub index : IsIndexOf object s row.relocations
+  pub parts : HasParts row
   pub code_is : IsCodeOf object s row.words row.size
 
 -- the rows of an object's sections

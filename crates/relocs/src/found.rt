@@ -1,8 +1,10 @@
 ghost use Rattle.std.specs.Prelude.{◌≡◌, ◌<◌, ◌^◌, ◌-◌, if◌then◌else◌};
 ghost use Rattle.faults.specs.First.{◌or_else◌, where_true};
 ghost use Rattle.relocs.specs.Kinds.{is_call as is_the_call, kind_of as the_kind};
+ghost use Rattle.relocs.specs.ByOffset.{calls as the_calls};
 ghost use Rattle.relocs.specs.Pairs.{stands_at};
-ghost use Rattle.relocs.specs.Sites.{found_more, gives_high};
+ghost use Rattle.std.specs.List.{filter};
+ghost use Rattle.relocs.specs.Sites.{found_of, found_more, gives_high as gives_the_high};
 
 use crate::kinds::{Kind, kind_of};
 use elf_objects::Relocation;
@@ -20,6 +22,20 @@ pub(crate) struct Found {
 }
 
 impl Found {
+    /// The summary of these relocations, by the CALLs among them and those that give an `auipc` its value.
+    #[tactic(auto, using(crate::proofs::Parting::parts))]
+    pub(crate) fn of(row: &[Relocation], calls: &[Relocation], highs: &[Relocation]) -> Found
+        requires calls { calls.now ≡ filter the_calls row.now }
+        requires highs { highs.now ≡ filter gives_the_high row.now }
+        ensures { result ≡ found_of row.now }
+    {
+        Found {
+            count: row.len(),
+            call: !calls.is_empty(),
+            high: highs.first().copied(),
+        }
+    }
+
     /// The same with one relocation more, where it is at the offset.
     pub(crate) fn with(self, relocation: Relocation, offset: u64) -> Found
         requires { self.count < 2 ^ 64 - 1 }
@@ -45,19 +61,27 @@ impl Found {
 }
 
 /// A relocation is a CALL.
-fn is_call(relocation: Relocation) -> bool
+pub(crate) fn is_call(relocation: Relocation) -> bool
     ensures { result ≡ is_the_call (the_kind relocation.kind) }
 {
     matches!(kind_of(relocation.kind), Kind::Call)
 }
 
+/// A relocation gives an `auipc` its value.
+pub(crate) fn gives_high(relocation: Relocation) -> bool
+    ensures { result ≡ gives_the_high relocation }
+{
+    matches!(kind_of(relocation.kind), Kind::GotHigh | Kind::PcHigh)
+}
+
 /// A relocation, where it gives an `auipc` its value.
 fn if_high(relocation: Relocation) -> Option<Relocation>
-    ensures { result ≡ where_true (gives_high relocation) relocation }
+    ensures { result ≡ where_true (gives_the_high relocation) relocation }
 {
-    match kind_of(relocation.kind) {
-        Kind::GotHigh | Kind::PcHigh => Some(relocation),
-        _ => None,
+    if gives_high(relocation) {
+        Some(relocation)
+    } else {
+        None
     }
 }
 

@@ -20,7 +20,7 @@ use crate::found::Found;
 use crate::halves::{low, upper, whole};
 use crate::kinds::{Kind, kind_of};
 use crate::operand::Operand;
-use crate::refusals::{crowd_fault, lesser};
+use crate::refusals::lesser;
 use crate::sources::Sources;
 use elf_objects::{Fault, Objects, Relocation};
 use layout::Placed;
@@ -78,10 +78,7 @@ impl Sources<'_, '_, '_> {
     {
         lesser(
             self.use_fault(object, section, offset),
-            lesser(
-                crowd_fault(self.found_at(object, section, offset)),
-                self.least_fault(object, section, offset),
-            ),
+            self.relocations_fault(object, section, offset),
         )
     }
 

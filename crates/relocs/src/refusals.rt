@@ -2,16 +2,14 @@
 
 ghost use Rattle.std.specs.Prelude.{◌≡◌, ◌<◌, length, IfSome, if◌then◌else◌, None, nat_lt};
 ghost use Rattle.std.specs.List.{filter_map};
-ghost use Rattle.faults.specs.First.{where_true};
 ghost use Rattle.symbols.specs.Parts.{object_at};
 ghost use Rattle.symbols.specs.Wanted.{Given};
-ghost use Rattle.relocs.specs.Operands.{plain_fault as the_plain_fault, auipc_fault as the_auipc_fault, label_of as the_label_of, offset_in as the_offset_in, high_of as the_high_of, label_fault as the_label_fault, relocation_fault as the_relocation_fault, lesser as the_lesser, least};
+ghost use Rattle.relocs.specs.Operands.{plain_fault as the_plain_fault, auipc_fault as the_auipc_fault, label_of as the_label_of, offset_in as the_offset_in, high_of as the_high_of, label_fault as the_label_fault, relocation_fault as the_relocation_fault, lesser as the_lesser, least, codes_by};
 ghost use Rattle.relocs.specs.Pairs.{relocations_at, stands_at};
 ghost use Rattle.relocs.specs.Sites.{IsCodeSection, IsNamed};
 ghost use Rattle.relocs.specs.Sources.{IsSourcesOf};
 
 use crate::fault::{MISSING_HIGH, WRONG_RELOCATION};
-use crate::found::Found;
 use crate::kinds::{Kind, kind_of};
 use crate::sites::holds_auipc;
 use crate::sources::Sources;
@@ -60,17 +58,43 @@ impl Sources<'_, '_, '_> {
     }
 
     /// The least fault of an `auipc`'s relocations.
-    #[tactic(auto, using(crate::proofs::Least::leasts), unfolding(crate::specs::Operands::auipc_fault))]
+    #[tactic(auto, using(crate::proofs::Crowded::crowds), unfolding(crate::specs::Operands::auipc_fault))]
     fn auipc_fault(&self, object: u32, section: u32, offset: u64) -> Option<u8>
         ghost given: { Given }
         requires sources { IsSourcesOf given self.now }
         requires section { IsCodeSection given object section }
         ensures { result ≡ the_auipc_fault given object section offset }
     {
-        lesser(
-            crowd_fault(self.found_at(object, section, offset)),
-            self.least_plain_fault(object, section, offset),
-        )
+        if self.is_crowded(object, section, offset) {
+            Some(WRONG_RELOCATION)
+        } else {
+            self.least_plain_fault(object, section, offset)
+        }
+    }
+
+    /// Whether several relocations are at an offset, of whose codes that of several is the least.
+    fn is_crowded(&self, object: u32, section: u32, offset: u64) -> bool
+        ghost given: { Given }
+        requires sources { IsSourcesOf given self.now }
+        requires section { IsCodeSection given object section }
+        ensures { result ≡ nat_lt 1 (length (relocations_at given object section offset)) }
+    {
+        1 < self.found_at(object, section, offset).count
+    }
+
+    /// The least fault of the relocations at an offset.
+    #[tactic(auto, using(crate::proofs::Crowded::crowds))]
+    pub(crate) fn relocations_fault(&self, object: u32, section: u32, offset: u64) -> Option<u8>
+        ghost given: { Given }
+        requires sources { IsSourcesOf given self.now }
+        requires section { IsCodeSection given object section }
+        ensures { result ≡ least (codes_by (the_relocation_fault given object section) (relocations_at given object section offset)) }
+    {
+        if self.is_crowded(object, section, offset) {
+            Some(WRONG_RELOCATION)
+        } else {
+            self.least_fault(object, section, offset)
+        }
     }
 
     /// The relocation of the `auipc` that a PCREL_LO12 names, where it names one.
@@ -149,7 +173,7 @@ impl Sources<'_, '_, '_> {
     }
 
     /// The least of the faults that each relocation at an offset has.
-    pub(crate) fn least_fault(&self, object: u32, section: u32, offset: u64) -> Option<u8>
+    fn least_fault(&self, object: u32, section: u32, offset: u64) -> Option<u8>
         ghost given: { Given }
         requires sources { IsSourcesOf given self.now }
         requires section { IsCodeSection given object section }
@@ -206,17 +230,6 @@ fn offset_in(object: u32, section: u32, place: Place) -> Option<u64>
             }
         }
         _ => None,
-    }
-}
-
-/// The fault of several relocations at one offset.
-pub(crate) fn crowd_fault(found: Found) -> Option<u8>
-    ensures { result ≡ where_true (nat_lt 1 found.count) WRONG_RELOCATION }
-{
-    if 1 < found.count {
-        Some(WRONG_RELOCATION)
-    } else {
-        None
     }
 }
 

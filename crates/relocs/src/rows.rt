@@ -3,8 +3,10 @@
 ghost use Rattle.std.specs.Prelude.{◌≡◌, ◌<◌, ◌++◌, ◌∷◌, [], length, if◌then◌else◌, IfOk, OnOk};
 ghost use Rattle.std.specs.List.{filter};
 ghost use Rattle.std.specs.List.Sorted.{IsNonDecreasingBy};
-ghost use Rattle.relocs.specs.ByOffset.{changes_something, is_at, offset_of, IsBound, IsEffective, IsIndexOf};
+ghost use Rattle.relocs.specs.ByOffset.{calls, changes_something, is_at, offset_of, IsBound, IsEffective, IsIndexOf};
+ghost use Rattle.relocs.specs.Sites.{gives_high as gives_the_high};
 
+use crate::found::{gives_high, is_call};
 use elf_objects::{Object, Relocation};
 use std::alloc::{AllocError, Global};
 use symbols::has_effect;
@@ -34,20 +36,47 @@ fn effective(
 {
     let mut found = Vec::new(alloc);
     for at in 0..object.relocations(section) {
-        push_effective(&mut found, object.relocation(section, at))?;
+        let relocation = object.relocation(section, at);
+        push_if(&mut found, has_effect(relocation.kind), relocation)?;
     }
     Ok(found)
 }
 
-fn push_effective(found: &mut Vec<Relocation>, relocation: Relocation) -> Result<(), AllocError>
-    ensures { OnOk result (found.new.items ≡ found.old.items ++ (if changes_something relocation then relocation ∷ [] else [])) }
+fn push_if(
+    found: &mut Vec<Relocation>,
+    kept: bool,
+    relocation: Relocation,
+) -> Result<(), AllocError>
+    ensures { OnOk result (found.new.items ≡ found.old.items ++ (if kept then relocation ∷ [] else [])) }
 {
-    if has_effect(relocation.kind) {
+    if kept {
         found.push(relocation)?;
         Ok(())
     } else {
         Ok(())
     }
+}
+
+/// The CALLs of a row.
+pub(crate) fn calls_of(alloc: Global, row: &[Relocation]) -> Result<Vec<Relocation>, AllocError>
+    ensures { IfOk result (λ v. v.items ≡ filter calls row.now) }
+{
+    let mut found = Vec::new(alloc);
+    for relocation in row {
+        push_if(&mut found, is_call(*relocation), *relocation)?;
+    }
+    Ok(found)
+}
+
+/// Those of a row that give an `auipc` its value.
+pub(crate) fn highs_of(alloc: Global, row: &[Relocation]) -> Result<Vec<Relocation>, AllocError>
+    ensures { IfOk result (λ v. v.items ≡ filter gives_the_high row.now) }
+{
+    let mut found = Vec::new(alloc);
+    for relocation in row {
+        push_if(&mut found, gives_high(*relocation), *relocation)?;
+    }
+    Ok(found)
 }
 
 /// Those at an offset.

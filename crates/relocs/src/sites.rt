@@ -80,6 +80,20 @@ impl Sources<'_, '_, '_> {
         ensures found { result ≡ found_of (relocations_at given object section offset) }
         ensures named { IfSome result.high (IsNamed given object) }
     {
+        match self.tables {
+            Some(tables) => tables.found(self.objects, object, section, offset),
+            None => self.found_near(object, section, offset),
+        }
+    }
+
+    /// The same without an index, by all relocations of the section.
+    fn found_near(&self, object: u32, section: u32, offset: u64) -> Found
+        ghost given: { Given }
+        requires sources { IsSourcesOf given self.now }
+        requires section { IsCodeSection given object section }
+        ensures found { result ≡ found_of (relocations_at given object section offset) }
+        ensures named { IfSome result.high (IsNamed given object) }
+    {
         let mut found = Found {
             count: 0,
             call: false,

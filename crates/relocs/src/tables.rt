@@ -1,29 +1,33 @@
 //! The relocations of all sections by their offsets, so that those at an offset are found without a scan of the table, and
 //! the words of code, so that each is decoded once.
 
-ghost use Rattle.std.specs.Prelude.{◌≡◌, ◌<◌, length, slice_get, Some, IfOk};
+ghost use Rattle.std.specs.Prelude.{◌≡◌, ◌<◌, length, slice_get, Some, IfOk, IfSome};
 ghost use Rattle.std.specs.List.{filter};
 ghost use Rattle.std.specs.List.Sorted.{IsNonDecreasingBy};
 ghost use Rattle.elf_objects.specs.Objects.{relocations_of};
 ghost use Rattle.symbols.specs.Laws.{HasSection};
 ghost use Rattle.symbols.specs.Parts.{object_at};
-ghost use Rattle.relocs.specs.Pairs.{stands_at};
-ghost use Rattle.relocs.specs.ByOffset.{is_at, offset_of, AreNamed, IsRowOf, IsCodeOf, IsCodeIn, HasRows, HasTables, code_of, kept_word};
-ghost use Rattle.relocs.specs.Sites.{HasSize};
+ghost use Rattle.relocs.specs.Pairs.{stands_at, has_call as has_the_call};
+ghost use Rattle.relocs.specs.ByOffset.{is_at, offset_of, AreNamed, IsRowOf, IsCodeOf, IsCodeIn, HasParts, HasRows, HasTables, code_of, kept_word};
+ghost use Rattle.relocs.specs.Sites.{HasSize, found_of};
 ghost use Rattle.relocs.specs.Words.{word_in, decoded};
 
 use crate::code_words::code_words;
-use crate::rows::{at_offset, row_of};
+use crate::found::Found;
+use crate::rows::{at_offset, calls_of, highs_of, row_of};
 use crate::sites::operation;
 use elf_objects::{Object, Objects, Relocation, SectionKind};
 use rv_decode::{RvOp, WordFault};
 use std::alloc::{AllocError, Global};
 use std::marker::Model;
 
-/// The relocations of a section by offset, and of a code section the words and the size in bytes.
+/// The relocations of a section by offset, those of them that are a CALL and those that give an `auipc` its value, and of a
+/// code section the words and the size in bytes.
 #[derive(Drop)]
 pub(crate) struct Row {
     relocations: Vec<Relocation>,
+    calls: Vec<Relocation>,
+    highs: Vec<Relocation>,
     words: Vec<Result<RvOp, WordFault>>,
     size: usize,
 }
@@ -33,7 +37,7 @@ impl Model for Row {
 
     ghost Value = { TheRow };
 
-    ghost view = { λ r. record { relocations = r.relocations.items; words = r.words.items; size = r.size } };
+    ghost view = { λ r. record { relocations = r.relocations.items; calls = r.calls.items; highs = r.highs.items; words = r.words.items; size = r.size } };
 }
 
 impl Row {
@@ -42,8 +46,13 @@ impl Row {
         ensures { IfOk result (IsRowOf object.now section) }
     {
         let (words, size) = code(alloc, object, section)?;
+        let relocations = row_of(alloc, object, section)?;
+        let calls = calls_of(alloc, &relocations)?;
+        let highs = highs_of(alloc, &relocations)?;
         Ok(Row {
-            relocations: row_of(alloc, object, section)?,
+            relocations,
+            calls,
+            highs,
             words,
             size,
         })
@@ -54,6 +63,24 @@ impl Row {
         ensures { result.now ≡ filter (is_at offset) self.now.relocations }
     {
         at_offset(&self.relocations, offset)
+    }
+
+    fn found(&self, offset: u64) -> Found
+        requires { HasParts self.now }
+        ensures { result ≡ found_of (filter (is_at offset) self.now.relocations) }
+    {
+        Found::of(
+            at_offset(&self.relocations, offset),
+            at_offset(&self.calls, offset),
+            at_offset(&self.highs, offset),
+        )
+    }
+
+    fn has_call(&self, offset: u64) -> bool
+        requires { HasParts self.now }
+        ensures { result ≡ has_the_call (filter (is_at offset) self.now.relocations) }
+    {
+        !at_offset(&self.calls, offset).is_empty()
     }
 
     fn word(&self, offset: u64) -> Option<Result<RvOp, WordFault>>
@@ -160,6 +187,31 @@ impl Tables {
         ensures named { AreNamed (object_at objects.now object) result.now }
     {
         self.rows(object).row(section).at(offset)
+    }
+
+    /// A summary of them.
+    pub(crate) fn found(
+        &self,
+        objects: &Objects<'_>,
+        object: u32,
+        section: u32,
+        offset: u64,
+    ) -> Found
+        requires tables { HasTables objects.now self.now }
+        requires section { HasSection objects.now object section }
+        ensures found { result ≡ found_of (filter (stands_at offset) (relocations_of (object_at objects.now object) section)) }
+        ensures named { IfSome result.high (λ r. r.symbol < length (object_at objects.now object).symbols) }
+    {
+        self.rows(object).row(section).found(offset)
+    }
+
+    /// Whether a CALL is among them.
+    pub fn has_call(&self, objects: &Objects<'_>, object: u32, section: u32, offset: u64) -> bool
+        requires tables { HasTables objects.now self.now }
+        requires section { HasSection objects.now object section }
+        ensures { result ≡ has_the_call (filter (stands_at offset) (relocations_of (object_at objects.now object) section)) }
+    {
+        self.rows(object).row(section).has_call(offset)
     }
 
     /// What the word at an offset of a code section is, where the offset can be a place.

@@ -10,7 +10,7 @@ loop-at-init c = (c.new-found.ensures.items, named_none c.args.object.now (reloc
 pub loop-at-preserved : goal.loop-at-preserved
 loop-at-preserved c = (
   rw add-one
-      (c.in_ok-push_effective.ensures ∙ ap (λ l. l ++ (if changes_something c.relocation.result then c.relocation.result ∷ [] else [])) c.loop-at.invariant.0
-      ∙ filter_next changes_something (relocations_of c.args.object.now c.args.section) c.loop-at.at c.relocation.result c.relocation.ensures.entry),
-  named_more c.args.object.now (relocations_of c.args.object.now c.args.section) c.loop-at.at c.relocation.result c.loop-at.invariant.1 c.relocation.ensures.entry c.relocation.ensures.keeps.named,
+      (c.in_ok-push_if.ensures ∙ ap (λ b. c.loop-at.found.items ++ (if b then c.relocation-relocation.result ∷ [] else [])) c.has_effect.ensures ∙ ap (λ l. l ++ (if changes_something c.relocation-relocation.result then c.relocation-relocation.result ∷ [] else [])) c.loop-at.invariant.0
+      ∙ filter_next changes_something (relocations_of c.args.object.now c.args.section) c.loop-at.at c.relocation-relocation.result c.relocation-relocation.ensures.entry),
+  named_more c.args.object.now (relocations_of c.args.object.now c.args.section) c.loop-at.at c.relocation-relocation.result c.loop-at.invariant.1 c.relocation-relocation.ensures.entry c.relocation-relocation.ensures.keeps.named,
 )

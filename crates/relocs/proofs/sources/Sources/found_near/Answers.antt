@@ -2,7 +2,7 @@ use Rattle.std.proofs.Common.{arith}
 use Rattle.symbols.specs.Parts.{object_at}
 use Rattle.relocs.specs.Near.{items_of}
 use Rattle.relocs.proofs.Finding.{found_next, found_few, named_next}
-use Rattle.relocs.proofs.sources.Sources.found_at.Goals as goal
+use Rattle.relocs.proofs.sources.Sources.found_near.Goals as goal
 
 pub with-found-requires : goal.with-found-requires
 with-found-requires g c =
