@@ -35,6 +35,17 @@ pub record IsBound (row : List Relocation) (limit i : ℕ) : Type 0 where
   pub below : (k : ℕ) (r : Relocation) → k < i → slice_get row k ≡ Some r → r.offset < limit
   pub above : (k : ℕ) (r : Relocation) → i ≤ k → slice_get row k ≡ Some r → limit ≤ r.offset
 
+-- those with an offset below a limit are from one index to another, or before
+pub record IsBetween (row : List Relocation) (limit from to : ℕ) : Type 0 where
+  pub order : from ≤ to
+  pub within : to ≤ length row
+  pub below : (k : ℕ) (r : Relocation) → k < from → slice_get row k ≡ Some r → r.offset < limit
+  pub above : (k : ℕ) (r : Relocation) → to ≤ k → slice_get row k ≡ Some r → limit ≤ r.offset
+
+-- for each word the number of relocations before it
+pub record HasStarts (row : List Relocation) (starts : List ℕ) : Type 0 where
+  pub each : (i n : ℕ) → slice_get starts i ≡ Some n → IsBound row (4 * i) n
+
 -- a table by offset: at each offset those that change something, in table order
 pub record IsRow (table row : List Relocation) : Type 0 where
   pub rises : IsNonDecreasingBy offset_of row
@@ -50,11 +61,12 @@ pub record IsEffective (object : Object) (s : ℕ) (relocations : List Relocatio
   pub named : AreNamed object (relocations_of object s)
 
 -- what is kept of a section: its relocations by offset, those of them that are a CALL and those that give an auipc its value,
--- and of a code section the words and the size in bytes
+-- how many are before each word, and of a code section the words and the size in bytes
 pub record Row : Type 0 where
   pub relocations : List Relocation
   pub calls : List Relocation
   pub highs : List Relocation
+  pub starts : List ℕ
   pub words : List (Result RvOp WordFault)
   pub size : ℕ
 
@@ -84,11 +96,12 @@ pub record IsIndexOf (object : Object) (s : ℕ) (relocations : List Relocation)
   pub row_is : IsRow (relocations_of object s) relocations
   pub named : AreNamed object (relocations_of object s)
 
--- the CALLs among the relocations, and those that give an auipc its value
+-- the CALLs among the relocations, those that give an auipc its value, and how many are before each word
 pub record HasParts (row : Row) : Type 0 where
   pub rises : IsNonDecreasingBy offset_of row.relocations
   pub calls_are : row.calls ≡ filter calls row.relocations
   pub highs_are : row.highs ≡ filter gives_high row.relocations
+  pub starts_are : HasStarts row.relocations row.starts
 
 -- what is kept of a section of an object
 pub record IsRowOf (object : Object) (s : ℕ) (row : Row) : Type 0 where

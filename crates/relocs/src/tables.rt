@@ -1,33 +1,34 @@
 //! The relocations of all sections by their offsets, so that those at an offset are found without a scan of the table, and
 //! the words of code, so that each is decoded once.
 
-ghost use Rattle.std.specs.Prelude.{◌≡◌, ◌<◌, length, slice_get, Some, IfOk, IfSome};
+ghost use Rattle.std.specs.Prelude.{◌≡◌, ℕ, ◌<◌, ◌≤◌, ◌+◌, length, slice_get, Some, IfOk, IfSome};
 ghost use Rattle.std.specs.List.{filter};
-ghost use Rattle.std.specs.List.Sorted.{IsNonDecreasingBy};
+ghost use Rattle.elf_objects.specs.declared.parts.Relocation.{Relocation as TheRelocation};
 ghost use Rattle.elf_objects.specs.Objects.{relocations_of};
 ghost use Rattle.symbols.specs.Laws.{HasSection};
 ghost use Rattle.symbols.specs.Parts.{object_at};
 ghost use Rattle.relocs.specs.Pairs.{stands_at, has_call as has_the_call};
-ghost use Rattle.relocs.specs.ByOffset.{is_at, offset_of, AreNamed, IsRowOf, IsCodeOf, IsCodeIn, HasParts, HasRows, HasTables, code_of, kept_word};
+ghost use Rattle.relocs.specs.ByOffset.{is_at, AreNamed, IsRowOf, IsCodeOf, IsCodeIn, HasParts, HasRows, HasTables, code_of, kept_word};
 ghost use Rattle.relocs.specs.Sites.{HasSize, found_of};
 ghost use Rattle.relocs.specs.Words.{word_in, decoded};
 
 use crate::code_words::code_words;
 use crate::found::Found;
-use crate::rows::{at_offset, calls_of, highs_of, row_of};
+use crate::rows::{at_offset, at_offset_in, calls_of, highs_of, row_of, starts_of};
 use crate::sites::operation;
 use elf_objects::{Object, Objects, Relocation, SectionKind};
 use rv_decode::{RvOp, WordFault};
 use std::alloc::{AllocError, Global};
 use std::marker::Model;
 
-/// The relocations of a section by offset, those of them that are a CALL and those that give an `auipc` its value, and of a
-/// code section the words and the size in bytes.
+/// The relocations of a section by offset, those of them that are a CALL and those that give an `auipc` its value, how many are
+/// before each word, and of a code section the words and the size in bytes.
 #[derive(Drop)]
 pub(crate) struct Row {
     relocations: Vec<Relocation>,
     calls: Vec<Relocation>,
     highs: Vec<Relocation>,
+    starts: Vec<usize>,
     words: Vec<Result<RvOp, WordFault>>,
     size: usize,
 }
@@ -37,7 +38,7 @@ impl Model for Row {
 
     ghost Value = { TheRow };
 
-    ghost view = { λ r. record { relocations = r.relocations.items; calls = r.calls.items; highs = r.highs.items; words = r.words.items; size = r.size } };
+    ghost view = { λ r. record { relocations = r.relocations.items; calls = r.calls.items; highs = r.highs.items; starts = r.starts.items; words = r.words.items; size = r.size } };
 }
 
 impl Row {
@@ -49,20 +50,46 @@ impl Row {
         let relocations = row_of(alloc, object, section)?;
         let calls = calls_of(alloc, &relocations)?;
         let highs = highs_of(alloc, &relocations)?;
+        let starts = starts_of(alloc, &relocations, words.len())?;
         Ok(Row {
             relocations,
             calls,
             highs,
+            starts,
             words,
             size,
         })
     }
 
     fn at(&self, offset: u64) -> &[Relocation]
-        requires { IsNonDecreasingBy offset_of self.now.relocations }
+        requires { HasParts self.now }
         ensures { result.now ≡ filter (is_at offset) self.now.relocations }
     {
-        at_offset(&self.relocations, offset)
+        let to = self.end(offset);
+        at_offset_in(&self.relocations, offset, self.start(offset).min(to), to)
+    }
+
+    /// A number of relocations before an offset, of which there may be more in its word.
+    fn start(&self, offset: u64) -> usize
+        requires { HasParts self.now }
+        ensures { (k : ℕ) (r : TheRelocation) → k < result → slice_get self.now.relocations k ≡ Some r → r.offset < offset }
+    {
+        match self.starts.get((offset / 4) as usize) {
+            Some(start) => *start,
+            None => 0,
+        }
+    }
+
+    /// A number of relocations with those at an offset or before it among them.
+    fn end(&self, offset: u64) -> usize
+        requires { HasParts self.now }
+        ensures within { result ≤ length self.now.relocations }
+        ensures after { (k : ℕ) (r : TheRelocation) → result ≤ k → slice_get self.now.relocations k ≡ Some r → offset + 1 ≤ r.offset }
+    {
+        match self.starts.get((offset / 4 + 1) as usize) {
+            Some(end) => *end,
+            None => self.relocations.len(),
+        }
     }
 
     fn found(&self, offset: u64) -> Found
@@ -70,7 +97,7 @@ impl Row {
         ensures { result ≡ found_of (filter (is_at offset) self.now.relocations) }
     {
         Found::of(
-            at_offset(&self.relocations, offset),
+            self.at(offset),
             at_offset(&self.calls, offset),
             at_offset(&self.highs, offset),
         )

@@ -11,7 +11,7 @@ loop-low-preserved-then-from-limit c =
     record {
       order = omega (arith, c.loop-low-test.true);
       within = c.loop-low.invariant.within;
-      below = low_more c.args.row.now c.args.limit middle _ c.requires (slice_get-get_or c.args.row.now middle (at_zero 0) in_list) less;
+      below = low_more c.args.row.now c.args.limit middle _ c.requires.rises (slice_get-get_or c.args.row.now middle (at_zero 0) in_list) less;
       above = c.loop-low.invariant.above;
     }
 
@@ -24,5 +24,5 @@ loop-low-preserved c =
       order = omega arith;
       within = omega (arith, in_list);
       below = c.loop-low.invariant.below;
-      above = high_less c.args.row.now c.args.limit middle _ c.requires (slice_get-get_or c.args.row.now middle (at_zero 0) in_list) from;
+      above = high_less c.args.row.now c.args.limit middle _ c.requires.rises (slice_get-get_or c.args.row.now middle (at_zero 0) in_list) from;
     }

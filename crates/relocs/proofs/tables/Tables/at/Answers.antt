@@ -7,7 +7,7 @@ use Rattle.relocs.proofs.CodeWords.{row_there}
 use Rattle.relocs.proofs.tables.Tables.at.Goals as goal
 
 pub at-requires : goal.at-requires
-at-requires c = (row_there c.args.objects.now c.args.self.now c.args.object c.args.section c.rows.result.now c.row.result.now c.requires.tables c.rows.ensures c.row.ensures).index.row_is.rises
+at-requires c = (row_there c.args.objects.now c.args.self.now c.args.object c.args.section c.rows.result.now c.row.result.now c.requires.tables c.rows.ensures c.row.ensures).parts
 
 pub returns-clause-at : goal.returns-clause-at
 returns-clause-at c =
