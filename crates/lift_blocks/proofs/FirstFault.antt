@@ -50,7 +50,7 @@ entry_same o s f (names.Import i) = refl
 entry_same o s f (names.Number n) = refl
 entry_same o s f names.Absent = refl
 
-both_true : (a b : Bool) → (a && b) ≡ true → (a ≡ true) × (b ≡ true)
+pub both_true : (a b : Bool) → (a && b) ≡ true → (a ≡ true) × (b ≡ true)
 both_true true b e = (refl, e)
 both_true false b e = absurd cc
 
@@ -141,7 +141,7 @@ least_codes given o s f =
 -- ---- operations without relocations
 
 -- such an operation has no fault by itself
-complete_codes : (given : Given) (o s f : ℕ) (op : Option RvOp) → is_complete op ≡ true → operation_codes given o s f op [] ≡ []
+pub complete_codes : (given : Given) (o s f : ℕ) (op : Option RvOp) → is_complete op ≡ true → operation_codes given o s f op [] ≡ []
 complete_codes given o s f None e = refl
 complete_codes given o s f (Some (rv.Lui rd value)) e = refl
 complete_codes given o s f (Some (rv.Auipc rd value)) e = absurd cc
@@ -155,11 +155,11 @@ complete_codes given o s f (Some (rv.Op op rd rs1 rs2)) e = refl
 complete_codes given o s f (Some rv.Fence) e = refl
 complete_codes given o s f (Some rv.Trap) e = refl
 
-if_none : (b : Bool) (codes : List ℕ) → codes ≡ [] → (if b then [] else codes) ≡ []
+pub if_none : (b : Bool) (codes : List ℕ) → codes ≡ [] → (if b then [] else codes) ≡ []
 if_none true codes e = refl
 if_none false codes e = e
 
-none_is : (rs : List Relocation) → is_none_of rs ≡ true → rs ≡ []
+pub none_is : (rs : List Relocation) → is_none_of rs ≡ true → rs ≡ []
 none_is [] e = refl
 none_is (r ∷ rs) e = absurd cc
 
@@ -188,7 +188,7 @@ no_second given o s f e = by_size (nat_le 4 f) refl
         let none : raw_at given (Code o s (f - 4)) ≡ None = ap decoded (no_word (code_at given o s) (f - 4) odd) in
         rw none refl
 
-each_empty : (n : ℕ) (is : ℕ → Bool) (second : Bool) → second ≡ false → each_below n (λ e. broken (is e && second) INTO_PAIR) ≡ []
+pub each_empty : (n : ℕ) (is : ℕ → Bool) (second : Bool) → second ≡ false → each_below n (λ e. broken (is e && second) INTO_PAIR) ≡ []
 unfolding each_below
 each_empty zero is second e = refl
 each_empty (suc n) is second e = rw (each_empty n is second e, e) (by_test (is n))

@@ -29,3 +29,4 @@ pub mod OneLifted
 pub mod ListedOps
 pub mod EntrySites
 pub mod AllOperations
+pub mod PlainWords

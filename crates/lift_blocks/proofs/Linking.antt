@@ -5,6 +5,7 @@ use Rattle.rv_decode.specs.declared.ops.RvOp.{RvOp}
 use Rattle.rv_decode.specs.declared.ops.RvOp.TheVariants as rv
 use Rattle.symbols.specs.Wanted.{Given}
 use Rattle.relocs.specs.AddressMap.{link_of, link_at}
+use Rattle.relocs.specs.Operands.{holds_auipc}
 use Rattle.relocs.specs.Pairs.{joins, is_pair_at}
 use Rattle.relocs.specs.Places.{CodePlace, Code}
 use Rattle.relocs.specs.Words.{raw_at}
@@ -44,3 +45,22 @@ unfolding is_pair_at
 no_link given o s offset e =
     let alone : is_pair_at given o s offset ≡ false = no_pair (raw_at given (Code o s offset)) (raw_at given (Code o s (offset + 4))) _ _ e in
     rw alone (no_link_of (Code o s (offset + 4)) (raw_at given (Code o s offset)) e)
+
+no_auipc : (op second : Option RvOp) (bare call : Bool) → holds_auipc op ≡ false → ((joins op second && bare) && call) ≡ false
+no_auipc None second bare call e = refl
+no_auipc (Some (rv.Auipc rd value)) second bare call e = absurd cc
+no_auipc (Some (rv.Lui rd value)) second bare call e = refl
+no_auipc (Some (rv.Jal rd offset)) second bare call e = refl
+no_auipc (Some (rv.Jalr rd rs1 imm)) second bare call e = refl
+no_auipc (Some (rv.Branch c rs1 rs2 offset)) second bare call e = refl
+no_auipc (Some (rv.Load w rd rs1 imm)) second bare call e = refl
+no_auipc (Some (rv.Store w rs1 rs2 imm)) second bare call e = refl
+no_auipc (Some (rv.OpImm op rd rs1 imm)) second bare call e = refl
+no_auipc (Some (rv.Op op rd rs1 rs2)) second bare call e = refl
+no_auipc (Some rv.Fence) second bare call e = refl
+no_auipc (Some rv.Trap) second bare call e = refl
+
+-- a pair begins with an auipc
+pub no_pair_at : (given : Given) (o s offset : ℕ) → holds_auipc (raw_at given (Code o s offset)) ≡ false → is_pair_at given o s offset ≡ false
+unfolding is_pair_at
+no_pair_at given o s offset e = no_auipc (raw_at given (Code o s offset)) (raw_at given (Code o s (offset + 4))) _ _ e

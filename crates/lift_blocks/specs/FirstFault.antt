@@ -51,6 +51,19 @@ is_complete (Some op) = true
 abbrev pub is_bare : Given → ℕ → ℕ → ℕ → Bool
 is_bare given o s offset = is_complete (raw_at given (Code o s offset)) && is_none_of (relocations_at given o s offset)
 
+-- an operation that needs nothing else, and is no word of a pair
+abbrev pub is_alone : Option RvOp → Bool
+is_alone None = false
+is_alone (Some (rv.Auipc rd value)) = false
+is_alone (Some (rv.Jal rd offset)) = false
+is_alone (Some (rv.Jalr rd rs1 imm)) = false
+is_alone (Some (rv.Branch cond rs1 rs2 offset)) = false
+is_alone (Some op) = true
+
+-- at an offset is such an operation, and no relocation
+abbrev pub is_plain : Given → ℕ → ℕ → ℕ → Bool
+is_plain given o s offset = is_alone (raw_at given (Code o s offset)) && is_none_of (relocations_at given o s offset)
+
 -- the objects of a link, with what their relocations mean and the places of their entries
 pub record IsCodeOf (given : Given) (code : CodeFaults) : Type 0 where
   pub tables_are : AreTables given code.reader.objects.now code.reader.tables.now

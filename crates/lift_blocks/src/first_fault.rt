@@ -1,6 +1,6 @@
 //! The first fault of code, by object, section, offset and code.
 
-ghost use Rattle.std.specs.Prelude.{◌≡◌, ◌<◌, ◌&&◌, ◌++◌, length, Some, IfOk};
+ghost use Rattle.std.specs.Prelude.{◌≡◌, ◌<◌, ◌+◌, ◌&&◌, ◌++◌, length, Some, IfOk};
 ghost use Rattle.faults.specs.Present.{first_in};
 ghost use Rattle.elf_objects.specs.Objects.{relocations_of};
 ghost use Rattle.symbols.specs.Laws.{HasSection};
@@ -14,7 +14,7 @@ ghost use Rattle.relocs.specs.Pairs.{is_second as is_the_second};
 ghost use Rattle.relocs.specs.Places.{Code, code_at};
 ghost use Rattle.relocs.specs.Sites.{IsCodeSection};
 ghost use Rattle.relocs.specs.Sources.{IsSourcesOf};
-ghost use Rattle.lift_blocks.specs.FirstFault.{has_entry, AreEntries, AreAligned, IsCodeOf, is_complete as is_it_complete, is_bare as is_it_bare, unaligned_offset as the_unaligned_offset};
+ghost use Rattle.lift_blocks.specs.FirstFault.{has_entry, AreEntries, AreAligned, IsCodeOf, is_complete as is_it_complete, is_bare as is_it_bare, is_alone as is_it_alone, is_plain as is_it_plain, unaligned_offset as the_unaligned_offset};
 
 use crate::named_places::Named;
 use crate::reader::Reader;
@@ -124,9 +124,57 @@ impl CodeFaults<'_, '_> {
         requires section { IsCodeSection given object section }
         ensures { result ≡ fault_in_section given object section (code_at given object section) }
     {
-        let size = self.content(object, section).len() as u64;
+        let content = self.content(object, section);
         let aligned = first_unaligned(self.reader.objects.object(object), section);
-        for offset in 0..size + 1 {
+        if content.len() as u64 + 3 < aligned {
+            self.fault_in_words(object, section, content, aligned)
+        } else {
+            self.fault_in_offsets(object, section, content, aligned)
+        }
+    }
+
+    /// The first in a section of code whose relocations are at multiples of four.
+    fn fault_in_words(
+        &self,
+        object: u32,
+        section: u32,
+        content: &[u8],
+        aligned: u64,
+    ) -> Option<Fault>
+        ghost given: { Given }
+        requires code { IsCodeOf given self.now }
+        requires section { IsCodeSection given object section }
+        requires content { code_at given object section ≡ Some content.now }
+        requires aligned { AreAligned (relocations_of (object_at (kept_objects given) object) section) aligned }
+        requires all { length content.now + 3 < aligned }
+        ensures { result ≡ fault_in_section given object section (code_at given object section) }
+    {
+        let count = content.len() as u64 / 4 + 1;
+        let _aligned = aligned;
+        for word in 0..count {
+            if let Some(fault) = self.fault_at_word(object, section, 4 * word) {
+                return Some(fault);
+            }
+        }
+        None
+    }
+
+    /// The first in a section of code, whatever its relocations are at.
+    fn fault_in_offsets(
+        &self,
+        object: u32,
+        section: u32,
+        content: &[u8],
+        aligned: u64,
+    ) -> Option<Fault>
+        ghost given: { Given }
+        requires code { IsCodeOf given self.now }
+        requires section { IsCodeSection given object section }
+        requires content { code_at given object section ≡ Some content.now }
+        requires aligned { AreAligned (relocations_of (object_at (kept_objects given) object) section) aligned }
+        ensures { result ≡ fault_in_section given object section (code_at given object section) }
+    {
+        for offset in 0..content.len() as u64 + 1 {
             if let Some(fault) = self.fault_at(object, section, offset, aligned) {
                 return Some(fault);
             }
@@ -155,6 +203,20 @@ impl CodeFaults<'_, '_> {
         if offset % 4 != 0 && offset < aligned {
             return None;
         }
+        self.fault_at_word(object, section, offset)
+    }
+
+    /// The fault at an offset, which is most likely a word without one.
+    #[tactic(auto, using(crate::proofs::PlainWords::no_fault_at))]
+    fn fault_at_word(&self, object: u32, section: u32, offset: u64) -> Option<Fault>
+        ghost given: { Given }
+        requires code { IsCodeOf given self.now }
+        requires section { IsCodeSection given object section }
+        ensures { result ≡ fault_at_offset given object section offset }
+    {
+        if self.is_plain(object, section, offset) {
+            return None;
+        }
         let code = self.least_code(object, section, offset)?;
         Some(Fault {
             code,
@@ -162,6 +224,17 @@ impl CodeFaults<'_, '_> {
             section,
             offset,
         })
+    }
+
+    /// Whether there is an operation at an offset that needs nothing else and is in no pair, and no relocation.
+    fn is_plain(&self, object: u32, section: u32, offset: u64) -> bool
+        ghost given: { Given }
+        requires code { IsCodeOf given self.now }
+        requires section { IsCodeSection given object section }
+        ensures { result ≡ is_it_plain given object section offset }
+    {
+        is_alone(self.reader.op_at(object, section, offset))
+            && self.reader.relocations(object, section, offset).is_empty()
     }
 
     /// The least code of the faults at an offset.
@@ -244,6 +317,19 @@ fn is_complete(op: Option<RvOp>) -> bool
         op,
         Some(RvOp::Auipc { .. } | RvOp::Jal { .. } | RvOp::Branch { .. })
     )
+}
+
+/// Whether an operation needs nothing else, and is no word of a pair.
+fn is_alone(op: Option<RvOp>) -> bool
+    ensures { result ≡ is_it_alone op }
+{
+    match op {
+        Some(op) => !matches!(
+            op,
+            RvOp::Auipc { .. } | RvOp::Jal { .. } | RvOp::Jalr { .. } | RvOp::Branch { .. }
+        ),
+        None => false,
+    }
 }
 
 /// The least offset that is no multiple of four and at which a relocation changes something, and `u64::MAX` without one.

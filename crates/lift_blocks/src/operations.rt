@@ -5,6 +5,7 @@ ghost use Rattle.std.specs.Option.{option_map};
 ghost use Rattle.symbols.specs.Wanted.{Given};
 ghost use Rattle.relocs.specs.Places.{CodePlace, Code, Stub, Nowhere};
 ghost use Rattle.relocs.specs.Pairs.{joins as the_joins, is_pair_at, is_place};
+ghost use Rattle.relocs.specs.Sites.{IsCodeSection};
 ghost use Rattle.relocs.specs.Words.{raw_at};
 ghost use Rattle.relocs.specs.AddressMap.{needed_places};
 ghost use Rattle.rv_decode.specs.Operations.{IsReg, IsOp};
@@ -16,7 +17,7 @@ ghost use Rattle.lift_blocks.specs.PlacedOps.{HasBits, HasUpper, HasTarget, IsTa
 
 use crate::placed_op::PlacedOp;
 use crate::site::Site;
-use relocs::{CodeMap, Operand, Sources};
+use relocs::{CodeMap, Operand, Sources, holds_auipc};
 use rv_decode::{Reg, RvOp};
 use symbols::{ImportKind, Place, Wanted};
 
@@ -57,12 +58,25 @@ impl SourceMachine<'_, '_, '_> {
         ensures value { code_op (needed_places given) given object section offset ≡ Some (placed_operation_of result) }
         ensures fits { FitsInstructions (placed_operation_of result) }
     {
+        let op = self.sources.op_at(object, section, offset);
         let operand = self.operand(object, section, offset);
-        if self.sources.is_pair_at(object, section, offset) {
+        if self.begins_pair(op, object, section, offset) {
             self.pair(operand, object, section, offset)
         } else {
-            self.word(operand, object, section, offset)
+            self.word(op, operand, object, section, offset)
         }
+    }
+
+    /// Whether a pair begins at an offset, by the operation there.
+    #[tactic(auto, using(crate::proofs::Linking::no_pair_at))]
+    fn begins_pair(&self, op: Option<RvOp>, object: u32, section: u32, offset: u64) -> bool
+        ghost given: { Given }
+        requires machine { IsMachineOf given self.now }
+        requires section { IsCodeSection given object section }
+        requires op { op ≡ raw_at given (Code object section offset) }
+        ensures { result ≡ is_pair_at given object section offset }
+    {
+        holds_auipc(op) && self.sources.is_pair_at(object, section, offset)
     }
 
     /// What the relocation at an offset gives.
@@ -103,15 +117,23 @@ impl SourceMachine<'_, '_, '_> {
 
     /// The operation of the word at an offset.
     #[tactic(auto, using(crate::proofs::CodeRoom::words))]
-    fn word(&self, operand: Operand, object: u32, section: u32, offset: u64) -> PlacedOp
+    fn word(
+        &self,
+        op: Option<RvOp>,
+        operand: Operand,
+        object: u32,
+        section: u32,
+        offset: u64,
+    ) -> PlacedOp
         ghost given: { Given }
         requires machine { IsMachineOf given self.now }
         requires place { IsFaultless given object section offset }
+        requires op { op ≡ raw_at given (Code object section offset) }
         requires operand { operand ≡ operand_at given object section offset }
         ensures value { option_map (placed_op (needed_places given) (Code object section (offset + 4)) (target_from given object section offset operand) operand) (raw_at given (Code object section offset)) ≡ Some (placed_operation_of result) }
         ensures fits { FitsInstructions (placed_operation_of result) }
     {
-        match self.sources.op_at(object, section, offset) {
+        match op {
             Some(op) => self.placed(op, operand, object, section, offset),
             None => unreachable!(),
         }
