@@ -1,13 +1,14 @@
 -- The CALLs among relocations, and those that give an auipc its value, by offset.
-use Rattle.std.proofs.Common.{◌≡◌, ℕ, Bool, true, false, cond, List, [], ◌∷◌, length, Option, Some, None, refl, sym, ap, subst, ◌∙◌, arith}
+use Rattle.std.proofs.Common.{◌≡◌, ◌<◌, ℕ, Bool, true, false, cond, List, [], ◌∷◌, length, Option, Some, None, refl, sym, ap, subst, ◌∙◌, arith}
 use Rattle.std.specs.Prelude.{not, slice_get, ◌||◌, ◌==◌}
 use Rattle.std.specs.List.{filter, find}
 use Rattle.std.specs.List.Sorted.{IsNonDecreasingBy}
 use Rattle.std.proofs.lemmas.List.Kept.{IsNonDecreasingBy-filter}
+use Rattle.faults.specs.First.{where_true}
 use Rattle.elf_objects.specs.declared.parts.Relocation.{Relocation}
 use Rattle.relocs.specs.Kinds.{kind_of, is_call}
 use Rattle.relocs.specs.Pairs.{has_call, is_none_of}
-use Rattle.relocs.specs.Sites.{gives_high}
+use Rattle.relocs.specs.Sites.{gives_high, found_of}
 use Rattle.relocs.specs.ByOffset.{calls, is_at, offset_of}
 
 -- one filter after another, in either order
@@ -50,12 +51,17 @@ part_at t f row part whole kept here there is w k h e =
 pub part_rises : (t : Relocation → Bool) (row part kept : List Relocation) → IsNonDecreasingBy offset_of row → part ≡ filter t row → kept ≡ part → IsNonDecreasingBy offset_of kept
 part_rises t row part kept rises is k = subst (IsNonDecreasingBy offset_of) (sym (k ∙ is)) (IsNonDecreasingBy-filter offset_of t row rises)
 
-none_left : (rs : List Relocation) → (length rs == 0) ≡ is_none_of rs
-none_left [] = refl
-none_left (r ∷ rs) = grind arith
+or_false : (b : Bool) → (b || false) ≡ b
+or_false true = refl
+or_false false = refl
 
-pub call_at :
-    (f : ℕ) (row part kept there : List Relocation) (none : Bool) → part ≡ filter calls row → kept ≡ part → there ≡ filter (is_at f) kept → none ≡ (length there == 0)
-    → not none ≡ has_call (filter (is_at f) row)
-call_at f row part kept there none is k e b =
-    ap not (b ∙ none_left there) ∙ ap (λ l. not (is_none_of l)) (part_at calls f row part row kept (filter (is_at f) row) there is refl k refl e) ∙ sym (call_kept (filter (is_at f) row))
+pub found_none : (rs : List Relocation) → slice_get rs 0 ≡ None → found_of rs ≡ record { count = 0; call = false; high = None }
+found_none [] e = refl
+found_none (r ∷ rs) e = absurd cc
+
+pub found_only : (rs : List Relocation) (r : Relocation) → length rs < 2 → slice_get rs 0 ≡ Some r → found_of rs ≡ record { count = 1; call = is_call (kind_of r.kind); high = where_true (gives_high r) r }
+found_only [] r lt e = absurd cc
+found_only (x ∷ []) r lt e = (let same : x ≡ r = cc in let call = or_false (is_call (kind_of r.kind)) in rw (same, call) refl)
+found_only (x ∷ y ∷ rs) r lt e = absurd (omega (arith, lt))
+
+pub ruleset few = (found_none, found_only)

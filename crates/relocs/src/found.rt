@@ -1,4 +1,4 @@
-ghost use Rattle.std.specs.Prelude.{◌≡◌, ◌<◌, ◌^◌, ◌-◌, if◌then◌else◌};
+ghost use Rattle.std.specs.Prelude.{◌≡◌, ◌<◌, ◌^◌, ◌-◌, length, if◌then◌else◌};
 ghost use Rattle.faults.specs.First.{◌or_else◌, where_true};
 ghost use Rattle.relocs.specs.Kinds.{is_call as is_the_call, kind_of as the_kind};
 ghost use Rattle.relocs.specs.ByOffset.{calls as the_calls};
@@ -33,6 +33,26 @@ impl Found {
             count: row.len(),
             call: !calls.is_empty(),
             high: highs.first().copied(),
+        }
+    }
+
+    /// The summary of one relocation, or of none.
+    #[tactic(auto, using(crate::proofs::Parting::few))]
+    pub(crate) fn of_few(row: &[Relocation]) -> Found
+        requires { length row.now < 2 }
+        ensures { result ≡ found_of row.now }
+    {
+        match row.first() {
+            Some(only) => Found {
+                count: 1,
+                call: is_call(*only),
+                high: if_high(*only),
+            },
+            None => Found {
+                count: 0,
+                call: false,
+                high: None,
+            },
         }
     }
 

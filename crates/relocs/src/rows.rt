@@ -34,7 +34,7 @@ fn effective(
     requires { section < length object.now.sections }
     ensures { IfOk result (λ v. IsEffective object.now section v.items) }
 {
-    let mut found = Vec::new(alloc);
+    let mut found = Vec::with_capacity(alloc, object.relocations(section) as usize)?;
     for at in 0..object.relocations(section) {
         let relocation = object.relocation(section, at);
         push_if(&mut found, has_effect(relocation.kind), relocation)?;

@@ -8,7 +8,7 @@ ghost use Rattle.elf_objects.specs.Objects.{relocations_of};
 ghost use Rattle.symbols.specs.Laws.{HasSection};
 ghost use Rattle.symbols.specs.Parts.{object_at};
 ghost use Rattle.relocs.specs.Pairs.{stands_at, has_call as has_the_call};
-ghost use Rattle.relocs.specs.ByOffset.{is_at, AreNamed, IsRowOf, IsCodeOf, IsCodeIn, HasParts, HasRows, HasTables, code_of, kept_word};
+ghost use Rattle.relocs.specs.ByOffset.{is_at, AreNamed, IsRow, IsRowOf, IsCodeOf, IsCodeIn, HasParts, HasRows, HasTables, code_of, kept_word};
 ghost use Rattle.relocs.specs.Sites.{HasSize, found_of};
 ghost use Rattle.relocs.specs.Words.{word_in, decoded};
 
@@ -69,6 +69,12 @@ impl Row {
         at_offset_in(&self.relocations, offset, self.start(offset).min(to), to)
     }
 
+    fn relocations(&self) -> &[Relocation]
+        ensures { result.now ≡ self.now.relocations }
+    {
+        &self.relocations
+    }
+
     /// A number of relocations before an offset, of which there may be more in its word.
     fn start(&self, offset: u64) -> usize
         requires { HasParts self.now }
@@ -96,18 +102,25 @@ impl Row {
         requires { HasParts self.now }
         ensures { result ≡ found_of (filter (is_at offset) self.now.relocations) }
     {
+        let row = self.at(offset);
+        if row.len() < 2 {
+            Found::of_few(row)
+        } else {
+            self.found_among(row, offset)
+        }
+    }
+
+    /// The same of those that are at the offset, which may be many.
+    fn found_among(&self, row: &[Relocation], offset: u64) -> Found
+        requires parts { HasParts self.now }
+        requires row { row.now ≡ filter (is_at offset) self.now.relocations }
+        ensures { result ≡ found_of row.now }
+    {
         Found::of(
-            self.at(offset),
+            row,
             at_offset(&self.calls, offset),
             at_offset(&self.highs, offset),
         )
-    }
-
-    fn has_call(&self, offset: u64) -> bool
-        requires { HasParts self.now }
-        ensures { result ≡ has_the_call (filter (is_at offset) self.now.relocations) }
-    {
-        !at_offset(&self.calls, offset).is_empty()
     }
 
     fn word(&self, offset: u64) -> Option<Result<RvOp, WordFault>>
@@ -238,7 +251,16 @@ impl Tables {
         requires section { HasSection objects.now object section }
         ensures { result ≡ has_the_call (filter (stands_at offset) (relocations_of (object_at objects.now object) section)) }
     {
-        self.rows(object).row(section).has_call(offset)
+        self.found(objects, object, section, offset).call
+    }
+
+    /// The relocations of a section that change something, by offset.
+    pub fn row(&self, objects: &Objects<'_>, object: u32, section: u32) -> &[Relocation]
+        requires tables { HasTables objects.now self.now }
+        requires section { HasSection objects.now object section }
+        ensures { IsRow (relocations_of (object_at objects.now object) section) result.now }
+    {
+        self.rows(object).row(section).relocations()
     }
 
     /// What the word at an offset of a code section is, where the offset can be a place.

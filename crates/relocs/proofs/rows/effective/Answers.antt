@@ -5,7 +5,7 @@ use Rattle.relocs.proofs.ByOffset.{filter_next, named_none, named_more}
 use Rattle.relocs.proofs.rows.effective.Goals as goal
 
 pub loop-at-init : goal.loop-at-init
-loop-at-init c = (c.new-found.ensures.items, named_none c.args.object.now (relocations_of c.args.object.now c.args.section))
+loop-at-init c = (c.in_ok-found.ensures.items, named_none c.args.object.now (relocations_of c.args.object.now c.args.section))
 
 pub loop-at-preserved : goal.loop-at-preserved
 loop-at-preserved c = (
