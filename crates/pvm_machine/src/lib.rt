@@ -6,19 +6,11 @@
 
 mod accesses;
 mod answers;
-#[cfg(test)]
-mod heap_tests;
 mod instructions;
 mod laws;
 mod machine;
-#[cfg(test)]
-mod memory_tests;
-#[cfg(test)]
-mod opcode_tests;
 mod operation;
 mod start_memory;
-#[cfg(test)]
-mod tests;
 
 pub use answers::{Exit, StartFault, Step};
 pub use laws::{effects_keep_targets, operations_have_forms, steps_are_turns};

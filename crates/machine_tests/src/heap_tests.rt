@@ -1,9 +1,9 @@
 //! Host calls, and the heap. The addresses are worked out by hand: a program without data has its heap from 0x2_0000 on,
 //! and without a stack it ends below 0xfefd_0000.
 
-use super::*;
 use blob_codec::Container;
 use page_memory::Mode;
+use pvm_machine::{Exit, Machine, Step};
 use std::test::*;
 
 // Containers without data and without a stack. Their programs begin behind 15 bytes.
