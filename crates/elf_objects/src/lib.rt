@@ -31,6 +31,3 @@ pub use fault::{
 pub use object::Object;
 pub use objects::Objects;
 pub use parts::{Binding, Relocation, Section, SectionKind, Symbol, SymbolIndex};
-
-#[cfg(test)]
-mod tests;

@@ -33,6 +33,3 @@ pub use wanted::{ImportKind, Wanted};
 pub fn places_are_within()
     ensures { PlacesAreWithin }
 {}
-
-#[cfg(test)]
-mod tests;

@@ -1,12 +1,10 @@
-ghost use Rattle.std.specs.Prelude.{◌≤◌, ◌^◌, length};
+//! Objects that are read, and the faults of files.
 
-use super::*;
+use elf_objects::{Binding, Object, ObjectFault, SectionKind, SymbolIndex};
+use object_parts::{Header, put_file_header, put_header, put_relocation, put_symbol};
 use std::alloc::{AllocError, Global};
 use std::process::Abort;
 use std::test::*;
-
-/// A section header: name, type, flags, offset, size, link, info, alignment, entry size.
-type Header = (u32, u32, u64, u64, u64, u32, u32, u64, u64);
 
 /// The section headers of the object.
 const HEADERS: [Header; 10] = [
@@ -59,8 +57,10 @@ const RELOCATION_SYMBOL: usize = 12;
 /// The object: the headers of file and sections, and the contents of the sections in their order.
 fn object_bytes(alloc: Global) -> Result<Vec<u8>, AllocError> {
     let mut out = Vec::new(alloc);
-    put_file_header(10, 8, &mut out)?;
-    put_headers(&mut out)?;
+    put_file_header(64, 10, 8, &mut out)?;
+    for header in HEADERS {
+        put_header(header, &mut out)?;
+    }
     out.extend_from_slice(&[0x13, 0x05, 0x50, 0, 0x67, 0x80, 0, 0])?;
     out.extend_from_slice(&[1, 2, 3, 4, 5, 6, 7, 8])?;
     put_relocation(0, 18, 1, 0, &mut out)?;
@@ -73,82 +73,6 @@ fn object_bytes(alloc: Global) -> Result<Vec<u8>, AllocError> {
     out.extend_from_slice(SECTION_NAMES)?;
     out.extend_from_slice(&[0; 24])?;
     Ok(out)
-}
-
-/// The header of a file with so many sections behind it, of which one has the names of sections.
-fn put_file_header(count: u16, names: u16, out: &mut Vec<u8>) -> Result<(), AllocError> {
-    out.extend_from_slice(b"\x7fELF\x02\x01\x01\0\0\0\0\0\0\0\0\0")?;
-    put_16(1, out)?;
-    put_16(243, out)?;
-    put_32(1, out)?;
-    put_64(0, out)?;
-    put_64(0, out)?;
-    put_64(64, out)?;
-    put_32(8, out)?;
-    for number in [64u16, 0, 0, 64, count, names] {
-        put_16(number, out)?;
-    }
-    Ok(())
-}
-
-fn put_headers(out: &mut Vec<u8>) -> Result<(), AllocError> {
-    for header in HEADERS {
-        put_header(header, out)?;
-    }
-    Ok(())
-}
-
-fn put_header(header: Header, out: &mut Vec<u8>) -> Result<(), AllocError> {
-    let (name, kind, flags, offset, size, link, info, align, entry_size) = header;
-    put_32(name, out)?;
-    put_32(kind, out)?;
-    put_64(flags, out)?;
-    put_64(0, out)?;
-    put_64(offset, out)?;
-    put_64(size, out)?;
-    put_32(link, out)?;
-    put_32(info, out)?;
-    put_64(align, out)?;
-    put_64(entry_size, out)
-}
-
-fn put_relocation(
-    offset: u64,
-    kind: u32,
-    symbol: u32,
-    addend: i64,
-    out: &mut Vec<u8>,
-) -> Result<(), AllocError> {
-    put_64(offset, out)?;
-    put_32(kind, out)?;
-    put_32(symbol, out)?;
-    put_64(addend.cast_unsigned(), out)
-}
-
-fn put_symbol(
-    name: u32,
-    info: u8,
-    index: u16,
-    value: u64,
-    out: &mut Vec<u8>,
-) -> Result<(), AllocError> {
-    put_32(name, out)?;
-    out.extend_from_slice(&[info, 0])?;
-    put_16(index, out)?;
-    put_64(value, out)?;
-    put_64(0, out)
-}
-
-fn put_16(n: u16, out: &mut Vec<u8>) -> Result<(), AllocError> {
-    out.extend_from_slice(&n.to_le_bytes())
-}
-
-fn put_32(n: u32, out: &mut Vec<u8>) -> Result<(), AllocError> {
-    out.extend_from_slice(&n.to_le_bytes())
-}
-
-fn put_64(n: u64, out: &mut Vec<u8>) -> Result<(), AllocError> {
-    out.extend_from_slice(&n.to_le_bytes())
 }
 
 /// The object with some bytes changed, by their places.
@@ -204,25 +128,22 @@ fn expect_fault(
     Ok(())
 }
 
-/// Asserts what a section is: its name and kind, its size and alignment, and how long its content is and how many
-/// relocations it has.
-fn expect_section(
-    rt: &impl Abort,
-    object: &Object<'_>,
-    at: u32,
-    name: &[u8],
-    kind: SectionKind,
-    numbers: (u64, u64, usize, u32),
-) {
-    assert!(rt; at < object.sections());
-    let section = object.section(at);
-    let (size, align, len, relocations) = numbers;
-    assert_eq!(rt; section.name, name);
-    assert_eq!(rt; section.kind, kind);
-    assert_eq!(rt; (section.size, section.align), (size, align));
-    assert_eq!(rt; section.content.len(), len);
-    assert_eq!(rt; object.relocations(at), relocations);
-}
+/// What a section is: its name and kind, its size and alignment, and how long its content is and how many relocations it
+/// has.
+type Told = (&'static [u8], SectionKind, (u64, u64, usize, u32));
+
+const SECTIONS: [Told; 10] = [
+    (b"", SectionKind::Unloaded, (0, 1, 0, 0)),
+    (b".text", SectionKind::Code, (8, 4, 8, 3)),
+    (b".data", SectionKind::Writable, (8, 8, 8, 0)),
+    (b".bss", SectionKind::Zero, (16, 1, 0, 0)),
+    (b".rela.text", SectionKind::Unloaded, (48, 8, 48, 0)),
+    (b".rela.text", SectionKind::Unloaded, (24, 8, 24, 0)),
+    (b".symtab", SectionKind::Unloaded, (72, 8, 72, 0)),
+    (b".strtab", SectionKind::Unloaded, (10, 1, 10, 0)),
+    (b".shstrtab", SectionKind::Unloaded, (69, 1, 69, 0)),
+    (b".eh_frame_hdr", SectionKind::Unloaded, (24, 3, 24, 0)),
+];
 
 #[test]
 fn reads_sections(rt: HostRuntime) -> Result<(), Fail> {
@@ -231,71 +152,26 @@ fn reads_sections(rt: HostRuntime) -> Result<(), Fail> {
     let object = Object::read(rt.alloc(), &file, 0)?;
     assert_eq!(rt; object.sections(), 10);
     assert!(rt; !object.compressed());
-    assert!(rt; SectionKind::Zero.is_loaded() && !SectionKind::Unloaded.is_loaded());
-    expect_section(&rt, &object, 0, b"", SectionKind::Unloaded, (0, 1, 0, 0));
-    expect_section(&rt, &object, 1, b".text", SectionKind::Code, (8, 4, 8, 3));
-    expect_section(
-        &rt,
-        &object,
-        2,
-        b".data",
-        SectionKind::Writable,
-        (8, 8, 8, 0),
-    );
-    expect_section(&rt, &object, 3, b".bss", SectionKind::Zero, (16, 1, 0, 0));
-    expect_section(
-        &rt,
-        &object,
-        4,
-        b".rela.text",
-        SectionKind::Unloaded,
-        (48, 8, 48, 0),
-    );
-    expect_section(
-        &rt,
-        &object,
-        5,
-        b".rela.text",
-        SectionKind::Unloaded,
-        (24, 8, 24, 0),
-    );
-    expect_section(
-        &rt,
-        &object,
-        6,
-        b".symtab",
-        SectionKind::Unloaded,
-        (72, 8, 72, 0),
-    );
-    expect_section(
-        &rt,
-        &object,
-        7,
-        b".strtab",
-        SectionKind::Unloaded,
-        (10, 1, 10, 0),
-    );
-    expect_section(
-        &rt,
-        &object,
-        8,
-        b".shstrtab",
-        SectionKind::Unloaded,
-        (69, 1, 69, 0),
-    );
-    expect_section(
-        &rt,
-        &object,
-        9,
-        b".eh_frame_hdr",
-        SectionKind::Unloaded,
-        (24, 3, 24, 0),
-    );
+    for at in 0..10u32 {
+        see_section(&rt, &object, at, SECTIONS[at as usize]);
+    }
     assert_eq!(rt;
         object.section(2).content,
         [1, 2, 3, 4, 5, 6, 7, 8].as_slice()
     );
     Ok(())
+}
+
+fn see_section(rt: &impl Abort, object: &Object<'_>, at: u32, told: Told) {
+    assert!(rt; at < object.sections());
+    let section = object.section(at);
+    let (name, kind, (size, align, len, relocations)) = told;
+    assert_eq!(rt; section.name, name);
+    assert_eq!(rt; section.kind, kind);
+    assert_eq!(rt; section.kind.is_loaded(), kind != SectionKind::Unloaded);
+    assert_eq!(rt; (section.size, section.align), (size, align));
+    assert_eq!(rt; section.content.len(), len);
+    assert_eq!(rt; object.relocations(at), relocations);
 }
 
 #[test]
@@ -327,7 +203,7 @@ fn refuses_too_many_relocations(rt: HostRuntime) -> Result<(), Fail> {
     // 4,096 RELA sections share 4,097 entries, which like all other bytes of sections are zeros
     let at = 64 + 64 * 4100;
     let mut file = Vec::new(rt.alloc());
-    put_file_header(4100, 3, &mut file)?;
+    put_file_header(64, 4100, 3, &mut file)?;
     put_header((0, 0, 0, 0, 0, 0, 0, 0, 0), &mut file)?;
     put_header((0, 1, 6, at, 8, 0, 0, 4, 0), &mut file)?;
     put_header((0, 2, 0, at, 24, 3, 1, 8, 24), &mut file)?;
@@ -520,46 +396,26 @@ fn refuses_sections_that_are_not_supported(rt: HostRuntime) -> Result<(), Fail> 
 
 #[test]
 fn refuses_names_symbols_and_relocations(rt: HostRuntime) -> Result<(), Fail> {
-    let alloc = rt.alloc();
-    // names past the table, and one without a 00
-    expect_fault(&rt, alloc, field(2, NAME), 69, (5, 2, 0))?;
-    expect_fault(&rt, alloc, symbol_field(1, NAME), 10, (5, 6, 1))?;
-    expect_fault(&rt, alloc, 873, b'x', (5, 6, 1))?;
-    // a binding, a type, a section that isn't there, LOCAL and undefined, and a value past the section
-    expect_fault(&rt, alloc, symbol_field(2, SYMBOL_INFO), 0x32, (6, 6, 2))?;
-    expect_fault(&rt, alloc, symbol_field(2, SYMBOL_INFO), 0x15, (6, 6, 2))?;
-    expect_fault(&rt, alloc, symbol_field(2, SYMBOL_INDEX), 10, (6, 6, 2))?;
-    expect_fault(&rt, alloc, symbol_field(1, SYMBOL_INDEX), 0, (6, 6, 1))?;
-    expect_fault(&rt, alloc, symbol_field(1, SYMBOL_VALUE), 17, (6, 6, 1))?;
-    // a symbol that isn't there, and bytes past the section
-    expect_fault(
-        &rt,
-        alloc,
-        relocation_field(0, RELOCATION_SYMBOL),
-        3,
-        (7, 4, 0),
-    )?;
-    expect_fault(
-        &rt,
-        alloc,
-        relocation_field(0, RELOCATION_OFFSET),
-        1,
-        (7, 4, 0),
-    )?;
-    expect_fault(
-        &rt,
-        alloc,
-        relocation_field(1, RELOCATION_OFFSET),
-        9,
-        (7, 4, 1),
-    )?;
-    expect_fault(
-        &rt,
-        alloc,
-        relocation_field(2, RELOCATION_OFFSET),
-        5,
-        (7, 5, 0),
-    )
+    for (at, byte, fault) in [
+        // names past the table, and one without a 00
+        (field(2, NAME), 69, (5, 2, 0)),
+        (symbol_field(1, NAME), 10, (5, 6, 1)),
+        (873, b'x', (5, 6, 1)),
+        // a binding, a type, a section that isn't there, LOCAL and undefined, and a value past the section
+        (symbol_field(2, SYMBOL_INFO), 0x32, (6, 6, 2)),
+        (symbol_field(2, SYMBOL_INFO), 0x15, (6, 6, 2)),
+        (symbol_field(2, SYMBOL_INDEX), 10, (6, 6, 2)),
+        (symbol_field(1, SYMBOL_INDEX), 0, (6, 6, 1)),
+        (symbol_field(1, SYMBOL_VALUE), 17, (6, 6, 1)),
+        // a symbol that isn't there, and bytes past the section
+        (relocation_field(0, RELOCATION_SYMBOL), 3, (7, 4, 0)),
+        (relocation_field(0, RELOCATION_OFFSET), 1, (7, 4, 0)),
+        (relocation_field(1, RELOCATION_OFFSET), 9, (7, 4, 1)),
+        (relocation_field(2, RELOCATION_OFFSET), 5, (7, 5, 0)),
+    ] {
+        expect_fault(&rt, rt.alloc(), at, byte, fault)?;
+    }
+    Ok(())
 }
 
 #[test]

@@ -1,12 +1,17 @@
-ghost use Rattle.std.specs.Prelude.{◌<◌, length, IfOk};
+//! What symbols and entries stand for, and their faults.
+
 ghost use Rattle.symbols.specs.Wanted.{given_of};
 ghost use Rattle.symbols.specs.Resolved.{IsResolved};
 
-use super::*;
 use elf_objects::{Object, Objects};
+use object_parts::{Header, put_file_header, put_header, put_relocation, put_symbol};
 use std::alloc::{AllocError, Global};
 use std::process::Abort;
 use std::test::*;
+use symbols::{
+    Answer, COMMON, DUPLICATE, ENTRY_MISSING, ENTRY_NOT_CODE, ImportKind, Place, Resolved,
+    SymbolFault, UNDEFINED, Wanted, has_effect, places_are_within, resolve,
+};
 
 /// A symbol: its name of at most seven bytes, its info, the index of its section, and its value.
 type Row = (&'static [u8], u8, u16, u64);
@@ -45,11 +50,11 @@ const CALL: u32 = 19;
 
 const RELAX_KIND: u32 = 51;
 
-/// The names of the sections, and their headers: name, type, flags, offset, size, link, info, alignment, entry size.
+/// The names of the sections, and their headers.
 const SECTION_NAMES: &[u8; 59] =
     b"\0.text\0.data\0.comment\0.rela.text\0.symtab\0.strtab\0.shstrtab\0";
 
-const HEADERS: [(u32, u32, u64, u64, u64, u32, u32, u64, u64); 8] = [
+const HEADERS: [Header; 8] = [
     (0, 0, 0, 0, 0, 0, 0, 0, 0),
     (1, 1, 6, 64, 16, 0, 0, 4, 0),
     (7, 1, 3, 80, 16, 0, 0, 8, 0),
@@ -63,34 +68,18 @@ const HEADERS: [(u32, u32, u64, u64, u64, u32, u32, u64, u64); 8] = [
 /// The object with these symbols and relocations.
 fn file_of(alloc: Global, parts: &Parts) -> Result<Vec<u8>, AllocError> {
     let mut out = Vec::new(alloc);
-    put_file_header(&mut out)?;
+    put_file_header(403, 8, 7, &mut out)?;
     out.extend_from_slice(&[0; 40])?;
     for (kind, symbol) in parts.1 {
-        put_64(0, &mut out)?;
-        put_32(kind, &mut out)?;
-        put_32(symbol, &mut out)?;
-        put_64(0, &mut out)?;
+        put_relocation(0, kind, symbol, 0, &mut out)?;
     }
     put_symbols(&parts.0, &mut out)?;
     put_names(&parts.0, &mut out)?;
     out.extend_from_slice(SECTION_NAMES)?;
-    put_section_headers(&mut out)?;
-    Ok(out)
-}
-
-fn put_file_header(out: &mut Vec<u8>) -> Result<(), AllocError> {
-    out.extend_from_slice(b"\x7fELF\x02\x01\x01\0\0\0\0\0\0\0\0\0")?;
-    put_16(1, out)?;
-    put_16(243, out)?;
-    put_32(1, out)?;
-    put_64(0, out)?;
-    put_64(0, out)?;
-    put_64(403, out)?;
-    put_32(8, out)?;
-    for number in [64u16, 0, 0, 64, 8, 7] {
-        put_16(number, out)?;
+    for header in HEADERS {
+        put_header(header, &mut out)?;
     }
-    Ok(())
+    Ok(out)
 }
 
 fn put_symbols(rows: &[Row; 5], out: &mut Vec<u8>) -> Result<(), AllocError> {
@@ -98,11 +87,7 @@ fn put_symbols(rows: &[Row; 5], out: &mut Vec<u8>) -> Result<(), AllocError> {
     let mut name = 0u32;
     for (_, info, index, value) in rows {
         name = name.wrapping_add(8);
-        put_32(name, out)?;
-        out.extend_from_slice(&[*info, 0])?;
-        put_16(*index, out)?;
-        put_64(*value, out)?;
-        put_64(0, out)?;
+        put_symbol(name, *info, *index, *value, out)?;
     }
     Ok(())
 }
@@ -116,34 +101,6 @@ fn put_names(rows: &[Row; 5], out: &mut Vec<u8>) -> Result<(), AllocError> {
         }
     }
     Ok(())
-}
-
-fn put_section_headers(out: &mut Vec<u8>) -> Result<(), AllocError> {
-    for (name, kind, flags, offset, size, link, info, align, entry_size) in HEADERS {
-        put_32(name, out)?;
-        put_32(kind, out)?;
-        put_64(flags, out)?;
-        put_64(0, out)?;
-        put_64(offset, out)?;
-        put_64(size, out)?;
-        put_32(link, out)?;
-        put_32(info, out)?;
-        put_64(align, out)?;
-        put_64(entry_size, out)?;
-    }
-    Ok(())
-}
-
-fn put_16(n: u16, out: &mut Vec<u8>) -> Result<(), AllocError> {
-    out.extend_from_slice(&n.to_le_bytes())
-}
-
-fn put_32(n: u32, out: &mut Vec<u8>) -> Result<(), AllocError> {
-    out.extend_from_slice(&n.to_le_bytes())
-}
-
-fn put_64(n: u64, out: &mut Vec<u8>) -> Result<(), AllocError> {
-    out.extend_from_slice(&n.to_le_bytes())
 }
 
 /// Objects and wanted names, with what they tell.
@@ -553,6 +510,13 @@ fn entries_have_faults(rt: HostRuntime) -> Result<(), Fail> {
         expect(&rt, rt.alloc(), case)?;
     }
     Ok(())
+}
+
+#[test]
+fn some_kinds_have_no_effect(rt: HostRuntime) {
+    for (kind, effect) in [(0, false), (CALL, true), (43, false), (RELAX_KIND, false)] {
+        assert_eq!(rt; has_effect(kind), effect, "{kind}");
+    }
 }
 
 /// Nothing of this law is seen where a program runs: the test shows that it can be called.
