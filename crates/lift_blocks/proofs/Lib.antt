@@ -30,3 +30,4 @@ pub mod ListedOps
 pub mod EntrySites
 pub mod AllOperations
 pub mod PlainWords
+pub mod Onward

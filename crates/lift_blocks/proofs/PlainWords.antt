@@ -3,6 +3,7 @@ use Rattle.std.proofs.Common.{◌≡◌, ℕ, zero, suc, ◌+◌, ◌-◌, ◌*�
 use Rattle.std.specs.Prelude.{◌&&◌, nat_eq, nat_le, if◌then◌else◌, Result, Ok, Err}
 use Rattle.std.proofs.lemmas.Bool.{leb-true}
 use Rattle.std.proofs.Math.Nat.{eq-or-lt_of_le}
+use Rattle.std.specs.List.{filter}
 use Rattle.std.specs.Option.{option_map}
 use Rattle.faults.specs.First.{first_below, ◌or_else◌}
 use Rattle.faults.proofs.Firsts.{first_below-more}
@@ -16,10 +17,13 @@ use Rattle.rv_decode.specs.declared.ops.RvOp.TheVariants as rv
 use Rattle.rv_decode.specs.declared.ops.WordFault.{WordFault}
 use Rattle.relocs.specs.CodeFaults.{fault_at, fault_at_offset, operation_codes, is_entry_at, entry_codes, codes_at, use_codes, word_fault}
 use Rattle.relocs.specs.Operands.{least, listed}
-use Rattle.relocs.specs.Pairs.{relocations_at, is_second, is_pair_at, joins}
+use Rattle.relocs.specs.ByOffset.{is_at, IsRow}
+use Rattle.relocs.specs.Pairs.{stands_at, relocations_at, is_second, is_pair_at, joins}
 use Rattle.relocs.specs.Places.{Code}
 use Rattle.relocs.specs.Sites.{IsCodeSection}
 use Rattle.relocs.specs.Words.{word_of_place, raw_at, decoded}
+use Rattle.relocs.proofs.ByOffset.{filter_again}
+use Rattle.relocs.proofs.Parting.{filters_commute}
 use Rattle.lift_blocks.specs.FirstFault.{AreAligned, is_complete, is_alone, is_plain}
 use Rattle.lift_blocks.proofs.FirstFault.{both_true, none_is, if_none, complete_codes, each_empty, no_fault}
 
@@ -120,3 +124,13 @@ pub none_below : {F : Type 0} (f : ℕ → Option F) (n m : ℕ) → m ≤ n →
 none_below f zero m le e = (let same : m ≡ 0 = omega (arith, le) in rw same refl)
 none_below f (suc n) m le e =
     elim (eq-or-lt_of_le le) [ inl same ↦ rw same e | inr less ↦ none_below f n m (omega (arith, less)) (left_none (first_below n f) (f n) e) ]
+
+-- ---- relocations by offset
+
+-- what changes nothing at an offset of a row changes nothing at that of its table
+pub aligned_table : (table row : List Relocation) (limit : ℕ) → IsRow table row → AreAligned row limit → AreAligned table limit
+aligned_table table row limit is aligned = record {
+  below = λ f lt odd.
+      sym (filter_again (stands_at f) table) ∙ ap (filter (stands_at f)) (sym (is.each f)) ∙ filters_commute (stands_at f) (is_at f) row
+      ∙ ap (filter (is_at f)) (aligned.below f lt odd);
+}

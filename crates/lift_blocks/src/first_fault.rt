@@ -18,7 +18,7 @@ ghost use Rattle.lift_blocks.specs.FirstFault.{has_entry, AreEntries, AreAligned
 
 use crate::named_places::Named;
 use crate::reader::Reader;
-use elf_objects::{Fault, Object, Relocation, SectionKind};
+use elf_objects::{Fault, Relocation, SectionKind};
 use relocs::{INTO_PAIR, Sources};
 use rv_decode::RvOp;
 use std::alloc::{AllocError, Global};
@@ -125,12 +125,23 @@ impl CodeFaults<'_, '_> {
         ensures { result ≡ fault_in_section given object section (code_at given object section) }
     {
         let content = self.content(object, section);
-        let aligned = first_unaligned(self.reader.objects.object(object), section);
+        let aligned = self.first_unaligned(object, section);
         if content.len() as u64 + 3 < aligned {
             self.fault_in_words(object, section, content, aligned)
         } else {
             self.fault_in_offsets(object, section, content, aligned)
         }
+    }
+
+    /// The least offset of a section of code that is no multiple of four and at which a relocation changes something, and
+    /// `u64::MAX` without one.
+    fn first_unaligned(&self, object: u32, section: u32) -> u64
+        ghost given: { Given }
+        requires code { IsCodeOf given self.now }
+        requires section { IsCodeSection given object section }
+        ensures { AreAligned (relocations_of (object_at (kept_objects given) object) section) result }
+    {
+        least_unaligned(self.reader.tables.row(self.reader.objects, object, section))
     }
 
     /// The first in a section of code whose relocations are at multiples of four.
@@ -332,14 +343,14 @@ fn is_alone(op: Option<RvOp>) -> bool
     }
 }
 
-/// The least offset that is no multiple of four and at which a relocation changes something, and `u64::MAX` without one.
-fn first_unaligned(object: &Object<'_>, section: u32) -> u64
-    requires { section < length object.now.sections }
-    ensures { AreAligned (relocations_of object.now section) result }
+/// The least offset in a row that is no multiple of four and at which a relocation changes something, and `u64::MAX` without
+/// one.
+fn least_unaligned(row: &[Relocation]) -> u64
+    ensures { AreAligned row.now result }
 {
     let mut least = u64::MAX;
-    for at in 0..object.relocations(section) {
-        least = least.min(unaligned_offset(object.relocation(section, at)));
+    for relocation in row {
+        least = least.min(unaligned_offset(*relocation));
     }
     least
 }

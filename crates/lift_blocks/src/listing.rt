@@ -1,13 +1,13 @@
 //! The operations in code order, from the operations at all places.
 
-ghost use Rattle.std.specs.Prelude.{◌≡◌, ◌≤◌, ◌^◌, ◌||◌, ◌++◌, not, true, length, map, map as each, Some, IfOk};
+ghost use Rattle.std.specs.Prelude.{◌≡◌, ◌≤◌, ◌^◌, ◌||◌, ◌++◌, not, true, false, length, map, map as each, Some, IfOk};
 ghost use Rattle.std.specs.List.{AllByRecursion, filter_map};
 ghost use Rattle.std.specs.Option.{option_map};
 ghost use Rattle.symbols.specs.Wanted.{Given};
 ghost use Rattle.relocs.specs.AddressMap.{named_places, needed_places};
 ghost use Rattle.relocs.specs.ByOffset.{AreTables};
 ghost use Rattle.relocs.specs.Places.{has};
-ghost use Rattle.relocs.specs.Pairs.{all_places};
+ghost use Rattle.relocs.specs.Pairs.{all_places, is_pair, next_place as the_next_place};
 ghost use Rattle.lift_blocks.specs.Fits.{FitsInstructions};
 ghost use Rattle.lift_blocks.specs.Kept.{site_of, operation_of};
 ghost use Rattle.lift_blocks.specs.Known.{AreAll, IsKnown};
@@ -194,7 +194,7 @@ fn emitted_marks(
 {
     let mut reached = Vec::new(alloc);
     reached.extend_from_slice(aimed)?;
-    mark_onward(reader, survey.places, &mut reached, survey.ops);
+    mark_onward(survey.places, &mut reached, survey.ops);
     kept_marks(alloc, reader, survey.places, &reached)
 }
 
@@ -225,31 +225,50 @@ fn unless_end(end: bool, reached: bool) -> bool
 }
 
 /// Marks the places that the operation before can go on to.
-fn mark_onward(reader: &Reader<'_, '_>, places: &[Site], marks: &mut [bool], ops: &[PlacedOp])
+fn mark_onward(places: &[Site], marks: &mut [bool], ops: &[PlacedOp])
     ghost given: { Given }
-    requires tables { AreTables given reader.now.objects.now reader.now.tables.now }
     requires places { AreAll given (map site_of places.now) }
     requires ops { AreOperations given (all_places given) ops.now }
     requires count { length marks.old ≡ length places.now }
     ensures { marks.new ≡ with_marks (all_places given) marks.old (onward_places given) }
 {
     for at in 0..places.len() {
-        mark_any(places, marks, onward(reader, places[at], ops[at]), at + 1);
+        mark_any(places, marks, onward(places[at], ops[at]), at + 1);
     }
 }
 
 /// The place after an operation, where the machine can go on to it.
-fn onward(reader: &Reader<'_, '_>, place: Site, op: PlacedOp) -> Option<Site>
+fn onward(place: Site, op: PlacedOp) -> Option<Site>
     ghost given: { Given }
-    requires tables { AreTables given reader.now.objects.now reader.now.tables.now }
     requires known { IsKnown given (site_of place) }
     requires op { operation_at given (site_of place) ≡ Some (placed_operation_of op) }
     ensures { option_map site_of result ≡ onward_of given (site_of place) }
 {
     if can_go_on(op) {
-        Some(reader.next_place(place))
+        Some(place_after(place))
     } else {
         None
+    }
+}
+
+/// The place after an operation that is no pair.
+fn place_after(place: Site) -> Site
+    ghost given: { Given }
+    requires known { IsKnown given (site_of place) }
+    requires alone { is_pair given (site_of place) ≡ false }
+    ensures { site_of result ≡ the_next_place given (site_of place) }
+{
+    match place {
+        Site::Code {
+            object,
+            section,
+            offset,
+        } => Site::Code {
+            object,
+            section,
+            offset: offset + 4,
+        },
+        Site::Stub { number, at } => Site::Stub { number, at: at + 1 },
     }
 }
 

@@ -65,7 +65,7 @@ pub(crate) fn chosen<T: Copy + Drop>(
     requires { length marks.now ≡ length items.now }
     ensures { IfOk result (λ v. v.items ≡ the_chosen marks.now items.now) }
 {
-    let mut found = Vec::new(alloc);
+    let mut found = Vec::with_capacity(alloc, items.len())?;
     for (at, item) in items.iter().enumerate() {
         push_if(&mut found, marks[at], *item)?;
     }

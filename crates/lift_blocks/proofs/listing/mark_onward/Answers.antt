@@ -16,16 +16,16 @@ use Rattle.lift_blocks.proofs.listing.mark_onward.Goals as goal
 
 pub onward-requires : goal.onward-requires
 onward-requires g c =
-    let all = c.requires.1.0 in
-    let ops = c.requires.1.1.0 in
+    let all = c.requires.0 in
+    let ops = c.requires.1.0 in
     let here = mapped_at c.args.places.now c.loop-at.at (Code 0 0 0) (omega arith) in
     let lengths = count g.given (all_places g.given) c.args.ops.now ops in
     let op = slice_get-get_or c.args.ops.now c.loop-at.at _ (omega (arith, lengths, ap length all.are, length-map c.args.places.now site_of)) in
-    (c.requires.0, (all.known.each c.loop-at.at _ here, operation_is g.given (all_places g.given) c.args.ops.now ops c.loop-at.at _ _ (sym (ap (λ l. slice_get l c.loop-at.at) all.are) ∙ here) op))
+    ((all.known.each c.loop-at.at _ here, operation_is g.given (all_places g.given) c.args.ops.now ops c.loop-at.at _ _ (sym (ap (λ l. slice_get l c.loop-at.at) all.are) ∙ here) op))
 
 pub loop-at-preserved : goal.loop-at-preserved
 loop-at-preserved g c =
-    let all = c.requires.1.0 in
+    let all = c.requires.0 in
     let places = all_places g.given in
     let here = mapped_at c.args.places.now c.loop-at.at (Code 0 0 0) (omega arith) in
     fold_some (with_mark places) c.args.marks.now (onward_of g.given) places c.loop-at.at _ c.loop-at.marks c.mark_any.new.marks (sym (ap (λ l. slice_get l c.loop-at.at) all.are) ∙ here)

@@ -1,4 +1,4 @@
 use Rattle.lift_blocks.proofs.listing.onward.Given as goal
 
-abbrev pub ghost-next_place : goal.ghost-next_place
-ghost-next_place g a = g.given
+abbrev pub ghost-place_after : goal.ghost-place_after
+ghost-place_after g a = g.given

@@ -8,3 +8,6 @@ ghost-fault_in_words g a = g.given
 
 abbrev pub ghost-fault_in_offsets : goal.ghost-fault_in_offsets
 ghost-fault_in_offsets g a = g.given
+
+abbrev pub ghost-first_unaligned : goal.ghost-first_unaligned
+ghost-first_unaligned g a = g.given
