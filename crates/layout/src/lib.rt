@@ -31,6 +31,3 @@ pub fn aligned_is_least()
 pub fn zero_pages_are_least()
     ensures { ZeroPagesAreLeast }
 {}
-
-#[cfg(test)]
-mod tests;

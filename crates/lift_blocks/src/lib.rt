@@ -50,6 +50,3 @@ pub fn calls_begin_blocks()
 pub fn lifted_is_one()
     ensures { LiftedIsOne }
 {}
-
-#[cfg(test)]
-mod tests;

@@ -42,6 +42,3 @@ pub fn linked_is_one()
 {
     lifted_is_one();
 }
-
-#[cfg(test)]
-mod tests;

@@ -44,6 +44,3 @@ pub fn blocks_are_carried_out()
 {
     calls_begin_blocks();
 }
-
-#[cfg(test)]
-mod tests;

@@ -1,11 +1,8 @@
 //! What each phase of a link makes of one small object: the meaning of its relocations, its operations, its blocks, its data
 //! and its address map.
 
-ghost use Rattle.std.specs.Prelude.{◌≡◌, MatchResult, IsSome};
-ghost use Rattle.symbols.specs.Resolved.{IsResolved};
-ghost use Rattle.symbols.specs.Wanted.{Given, Wanted as TheWanted, given_of};
-ghost use Rattle.layout.specs.Faults.{Refuses};
-ghost use Rattle.layout.specs.Placed.{IsPlaced};
+ghost use Rattle.std.specs.Prelude.{◌≡◌, IsSome};
+ghost use Rattle.symbols.specs.Wanted.{Given};
 ghost use Rattle.symbols.specs.Laws.{HasSection};
 ghost use Rattle.symbols.specs.Parts.{kind_at};
 ghost use Rattle.elf_objects.specs.declared.parts.SectionKind.TheVariants as kinds;
@@ -14,113 +11,55 @@ ghost use Rattle.relocs.specs.Sites.{IsCodeSection};
 ghost use Rattle.relocs.specs.Sources.{IsSourcesOf};
 
 use crate::object_file::object_file;
-use elf_objects::{Fault, Object, Objects, SectionKind};
-use layout::{LayoutFault, Placed, place_all};
-use lift_blocks::{Lifted, lift};
-use link_core::{Bundle, link};
+use crate::phases::{Phases, code, lift_main};
+use elf_objects::{Fault, Objects, SectionKind};
+use lift_blocks::Lifted;
+use link_core::{Bundle, first_fault_is_one, link, linked_is_one};
 use lower::lower;
+use pvm_ops::Blocks;
 use relocs::{Images, Operand, RelocFault, Sources, Tables, images, meaning};
 use rv_decode::{Reg, RvOp};
 use std::alloc::Global;
-use std::marker::Model;
 use std::process::Abort;
 use std::test::*;
-use symbols::{Place, Resolved, Wanted, resolve};
+use symbols::Wanted;
 
-/// Objects, what they are linked for, and what the phases up to the operations make of them.
-#[derive(Drop)]
-struct Phases<'a> {
-    objects: Objects<'a>,
-    wanted: Wanted,
-    resolved: Resolved,
-    placed: Placed,
-    lifted: Lifted,
-}
-
-impl<'a> Model for Phases<'a> {
-    ghost use Rattle.std.specs.Prelude.{◌≡◌};
-    ghost use Rattle.symbols.specs.Resolved.{IsResolved};
-    ghost use Rattle.symbols.specs.Wanted.{Given, given_of};
-    ghost use Rattle.layout.specs.Placed.{IsPlaced};
-    ghost use Rattle.relocs.specs.AddressMap.{needed_places};
-
-    ghost Value = { Given };
-
-    ghost view = { λ p. given_of p.objects p.wanted };
-
-    ghost invariant = { λ p. IsResolved (given_of p.objects p.wanted) p.resolved × IsPlaced (given_of p.objects p.wanted) p.placed × (p.lifted.map ≡ needed_places (given_of p.objects p.wanted)) };
-}
-
-/// Lifts the object of a file, with the entry `main`.
-fn lift_main<'a>(rt: &impl Abort, alloc: Global, file: &'a [u8]) -> Result<Phases<'a>, Fail> {
-    assert!(rt; file.len() < 65536);
-    let mut objects = Objects::new(alloc);
-    objects.push(Object::read(alloc, file, 0)?)?;
-    let mut wanted = Wanted::new(alloc, 4096);
-    wanted.entry(b"main")?;
-    let resolved = resolve(alloc, &objects, &wanted)?;
-    let placed = place(alloc, &objects, &wanted, &resolved)?;
-    let lifted = lift(alloc, &objects, &resolved, &placed, &wanted)?;
-    Ok(Phases {
-        objects,
-        wanted,
-        resolved,
-        placed,
-        lifted,
-    })
-}
-
-/// Places the data of objects under the wanted names.
-fn place(
-    alloc: Global,
-    objects: &Objects<'_>,
-    wanted: &Wanted,
-    resolved: &Resolved,
-) -> Result<Placed, LayoutFault>
-    ghost names: { TheWanted }
-    requires resolved { IsResolved (given_of objects.now names) resolved.now }
-    requires same { names ≡ wanted.now }
-    ensures { MatchResult result (IsPlaced (given_of objects.now names)) (Refuses (given_of objects.now names)) }
-{
-    place_all(alloc, objects, resolved, wanted.stack())
-}
-
-/// A place of the code.
-fn code(offset: u64) -> Place {
-    Place::Code {
-        object: 0,
-        section: 1,
-        offset,
+/// What each relocation of the code means.
+fn operand_of(number: u32) -> Operand {
+    match number {
+        0 => Operand::Target(code(4)),
+        1 => Operand::Target(code(8)),
+        2 => Operand::Target(code(0)),
+        3 => Operand::Target(code(16)),
+        4 => Operand::Value(0x1_0018),
+        5 => Operand::Value(0x18),
+        6 => Operand::Value(0x1_0800),
+        7 | 8 => Operand::Value(-0x800),
+        9 => Operand::Value(0x1234_6000),
+        10 => Operand::Value(-1),
+        11 => Operand::Value(1),
+        _ => Operand::Nothing,
     }
 }
 
 #[test]
 fn each_kind_of_relocation_has_its_meaning(rt: HostRuntime) -> Result<(), Fail> {
     let file = object_file(rt.alloc())?;
-    let phases = lift_main(&rt, rt.alloc(), &file)?;
-    let rows = [
-        Operand::Target(code(4)),
-        Operand::Target(code(8)),
-        Operand::Target(code(0)),
-        Operand::Target(code(16)),
-        Operand::Value(0x1_0018),
-        Operand::Value(0x18),
-        Operand::Value(0x1_0800),
-        Operand::Value(-0x800),
-        Operand::Value(-0x800),
-        Operand::Value(0x1234_6000),
-        Operand::Value(-1),
-        Operand::Value(1),
-        Operand::Nothing,
-    ];
+    let phases = lift_main(&rt, rt.alloc(), &file)??;
     for at in 0..13u32 {
-        let found = phases.meaning(&rt, at);
-        assert_eq!(rt; found, Ok(rows[at as usize]), "at {at}");
+        phases.see_meaning(&rt, at);
     }
     Ok(())
 }
 
 impl Phases<'_> {
+    fn see_meaning(&self, rt: &impl Abort, at: u32)
+        ghost given: { Given }
+        requires { given ≡ self.now }
+    {
+        assert_eq!(rt; self.meaning(rt, at), Ok(operand_of(at)), "at {at}");
+    }
+
     /// What the relocation of the code with a number means.
     fn meaning(&self, rt: &impl Abort, at: u32) -> Result<Operand, Fault>
         ghost given: { Given }
@@ -233,7 +172,7 @@ fn assert_code(rt: &impl Abort, objects: &Objects<'_>)
 #[test]
 fn sources_tell_what_is_at_an_offset(rt: HostRuntime) -> Result<(), Fail> {
     let file = object_file(rt.alloc())?;
-    let phases = lift_main(&rt, rt.alloc(), &file)?;
+    let phases = lift_main(&rt, rt.alloc(), &file)??;
     let tables = Tables::new(rt.alloc(), &phases.objects)?;
     phases.see_sources(&rt, &tables);
     let operand = phases.operand(&rt, &tables);
@@ -242,16 +181,26 @@ fn sources_tell_what_is_at_an_offset(rt: HostRuntime) -> Result<(), Fail> {
 }
 
 #[test]
-fn operations_have_places_and_blocks(rt: HostRuntime) -> Result<(), Fail> {
+fn operations_have_places(rt: HostRuntime) -> Result<(), Fail> {
     let file = object_file(rt.alloc())?;
-    let phases = lift_main(&rt, rt.alloc(), &file)?;
-    let lifted = &phases.lifted;
+    let lifted = lift_main(&rt, rt.alloc(), &file)??.lifted;
     assert_eq!(rt; lifted.len(), 13);
     for (at, offset) in [(0, 0), (3, 16), (4, 24), (12, 56)] {
-        assert!(rt; at < lifted.len());
-        assert_eq!(rt; lifted.place(at), code(offset), "at {at}");
+        see_place(&rt, &lifted, at, offset);
     }
-    let blocks = lower(rt.alloc(), lifted)?;
+    Ok(())
+}
+
+fn see_place(rt: &impl Abort, lifted: &Lifted, at: u32, offset: u64) {
+    assert!(rt; at < lifted.len());
+    assert_eq!(rt; lifted.place(at), code(offset), "at {at}");
+}
+
+#[test]
+fn operations_have_blocks(rt: HostRuntime) -> Result<(), Fail> {
+    let file = object_file(rt.alloc())?;
+    let lifted = lift_main(&rt, rt.alloc(), &file)??.lifted;
+    let blocks = lower(rt.alloc(), &lifted)?;
     assert_eq!(rt; blocks.entries(), [0].as_slice());
     assert_eq!(rt; blocks.needed(), [2, 3, 4].as_slice());
     assert_eq!(rt; blocks.len(), 5);
@@ -262,17 +211,21 @@ fn operations_have_places_and_blocks(rt: HostRuntime) -> Result<(), Fail> {
         (3, 1, Some(3)),
         (4, 9, None),
     ] {
-        assert!(rt; at < blocks.len());
-        assert_eq!(rt; blocks.block(at).len(), instructions, "at {at}");
-        assert_eq!(rt; blocks.target(at), target, "at {at}");
+        see_block(&rt, &blocks, at, instructions, target);
     }
     Ok(())
+}
+
+fn see_block(rt: &impl Abort, blocks: &Blocks, at: u32, instructions: usize, target: Option<u32>) {
+    assert!(rt; at < blocks.len());
+    assert_eq!(rt; blocks.block(at).len(), instructions, "at {at}");
+    assert_eq!(rt; blocks.target(at), target, "at {at}");
 }
 
 #[test]
 fn data_hold_values_and_slots(rt: HostRuntime) -> Result<(), Fail> {
     let file = object_file(rt.alloc())?;
-    let phases = lift_main(&rt, rt.alloc(), &file)?;
+    let phases = lift_main(&rt, rt.alloc(), &file)??;
     let images = phases.images(rt.alloc())?;
     let want = [
         0x04, 0, 0, 0, 0, 0, 0, 0, // the number of the place
@@ -308,4 +261,27 @@ fn a_linked_program_has_its_address_map(rt: HostRuntime) -> Result<(), Fail> {
     }
     assert_eq!(rt; map.number(code(0)), None);
     Ok(())
+}
+
+#[tactic(auto, unfolding(link_core::specs::Parts::total))]
+#[test]
+fn keeps_files_apart_in_a_bundle(rt: HostRuntime) -> Result<(), Fail> {
+    let mut bundle = Bundle::new(rt.alloc());
+    assert_eq!(rt; bundle.len(), 0);
+    bundle.add(b"one")?;
+    bundle.add(b"")?;
+    bundle.add(b"three")?;
+    assert_eq!(rt; bundle.len(), 3);
+    assert_eq!(rt; bundle.part(0), b"one".as_slice());
+    assert!(rt; bundle.part(1).is_empty());
+    assert_eq!(rt; bundle.part(2), b"three".as_slice());
+    Ok(())
+}
+
+/// The laws speak of all lists of files and of all containers, of which a link at hand shows nothing more: the test shows
+/// that they can be called.
+#[test]
+fn laws_of_one_answer_are_there() {
+    first_fault_is_one();
+    linked_is_one();
 }

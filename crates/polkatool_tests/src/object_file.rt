@@ -1,6 +1,21 @@
-//! An object with relocations of each kind, by its bytes.
+//! Objects by their bytes, one of them with relocations of each kind.
 
+use object_parts::{put_file_header, put_header, put_relocation, put_symbol};
 use std::alloc::{AllocError, Global};
+
+/// A relocation: offset, type, symbol and addend.
+pub(crate) type RelocationRow = (u64, u32, u32, i64);
+
+/// What an object holds. The code is section 1, and the data are section 3.
+#[derive(Clone, Copy)]
+pub(crate) struct Parts<'a> {
+    pub words: &'a [u32],
+    pub code_relocations: &'a [RelocationRow],
+    pub data: &'a [u8],
+    pub data_relocations: &'a [RelocationRow],
+    /// The symbols from 1 on: info, section and value. Those that are not local are named `main`.
+    pub symbols: &'a [(u8, u16, u64)],
+}
 
 /// The symbols: two labels in the code, a place in the read-only data, a number, and the function `main`.
 const GOT_LABEL: u32 = 1;
@@ -12,15 +27,6 @@ const DATA: u32 = 3;
 const NUMBER: u32 = 4;
 
 const MAIN: u32 = 5;
-
-/// Their info, section and value.
-const SYMBOLS: [(u8, u16, u64); 5] = [
-    (0, 1, 24),
-    (0, 1, 32),
-    (0, 3, 8),
-    (0, 0xfff1, 0x1234_5fff),
-    (0x12, 1, 0),
-];
 
 const WORDS: [u32; 15] = [
     0x00a5_0063, // beq a0, a0, 0
@@ -40,8 +46,7 @@ const WORDS: [u32; 15] = [
     0x0000_8067, // jalr x0, 0(ra)
 ];
 
-/// The relocations of the code: offset, type, symbol and addend.
-const CODE_RELOCATIONS: [(u64, u32, u32, u64); 13] = [
+const CODE_RELOCATIONS: [RelocationRow; 13] = [
     (0, 16, MAIN, 4),
     (4, 17, MAIN, 8),
     (8, 18, MAIN, 0),
@@ -61,8 +66,7 @@ const DATA_BYTES: [u8; 24] = [
     0xff, 0, 0, 0, 0, 0, 0, 0xff, 0xff, 0, 0, 0xff, 0, 1, 0, 0, 0xff, 0, 0, 0, 0xff, 0, 0, 0,
 ];
 
-/// The relocations of the data.
-const DATA_RELOCATIONS: [(u64, u32, u32, u64); 8] = [
+const DATA_RELOCATIONS: [RelocationRow; 8] = [
     (0, 2, MAIN, 16),
     (8, 1, NUMBER, 1),
     (12, 35, DATA, 0),
@@ -73,89 +77,105 @@ const DATA_RELOCATIONS: [(u64, u32, u32, u64); 8] = [
     (22, 34, NUMBER, 0),
 ];
 
-/// The sections: type, flags, offset, size, link, info, alignment and entry size. The code is section 1, and the data are
-/// section 3.
-const SECTIONS: [(u32, u64, u64, u64, u32, u32, u64, u64); 7] = [
-    (0, 0, 0, 0, 0, 0, 0, 0),
-    (1, 6, 64, 60, 0, 0, 4, 0),
-    (4, 0, 124, 312, 5, 1, 8, 24),
-    (1, 2, 436, 24, 0, 0, 8, 0),
-    (4, 0, 460, 192, 5, 3, 8, 24),
-    (2, 0, 652, 144, 6, 5, 8, 24),
-    (3, 0, 796, 6, 0, 0, 1, 0),
+const SYMBOLS: [(u8, u16, u64); 5] = [
+    (0, 1, 24),
+    (0, 1, 32),
+    (0, 3, 8),
+    (0, 0xfff1, 0x1234_5fff),
+    (0x12, 1, 0),
 ];
 
-/// The object's bytes.
+/// The object with relocations of each kind.
 pub(crate) fn object_file(alloc: Global) -> Result<Vec<u8>, AllocError> {
+    object_of(
+        alloc,
+        &Parts {
+            words: &WORDS,
+            code_relocations: &CODE_RELOCATIONS,
+            data: &DATA_BYTES,
+            data_relocations: &DATA_RELOCATIONS,
+            symbols: &SYMBOLS,
+        },
+    )
+}
+
+/// The object of code alone, whose function `main` is at its start.
+pub(crate) fn code_alone(alloc: Global, words: &[u32]) -> Result<Vec<u8>, AllocError> {
+    object_of(
+        alloc,
+        &Parts {
+            words,
+            code_relocations: &[],
+            data: &[],
+            data_relocations: &[],
+            symbols: &[(0x12, 1, 0)],
+        },
+    )
+}
+
+fn object_of(alloc: Global, parts: &Parts<'_>) -> Result<Vec<u8>, AllocError> {
     let mut out = Vec::new(alloc);
-    out.extend_from_slice(b"\x7fELF\x02\x01\x01\0\0\0\0\0\0\0\0\0\x01\0\xf3\0\x01\0\0\0")?;
-    put_64(0, &mut out)?;
-    put_64(0, &mut out)?;
-    put_64(802, &mut out)?;
-    put_32(8, &mut out)?;
-    out.extend_from_slice(&[64, 0, 0, 0, 0, 0, 64, 0, 7, 0, 6, 0])?;
-    for word in WORDS {
-        put_32(word, &mut out)?;
+    put_file_header(64, 7, 6, &mut out)?;
+    put_sections(parts, &mut out)?;
+    for word in parts.words {
+        out.extend_from_slice(&word.to_le_bytes())?;
     }
-    for relocation in CODE_RELOCATIONS {
-        put_relocation(relocation, &mut out)?;
+    put_relocations(parts.code_relocations, &mut out)?;
+    out.extend_from_slice(parts.data)?;
+    put_relocations(parts.data_relocations, &mut out)?;
+    put_symbol(0, 0, 0, 0, &mut out)?;
+    for (info, section, value) in parts.symbols {
+        let name = if *info == 0 { 0 } else { 1 };
+        put_symbol(name, *info, *section, *value, &mut out)?;
     }
-    out.extend_from_slice(&DATA_BYTES)?;
-    for relocation in DATA_RELOCATIONS {
-        put_relocation(relocation, &mut out)?;
-    }
-    put_symbols(&mut out)?;
     out.extend_from_slice(b"\0main\0")?;
-    for section in SECTIONS {
-        put_section(section, &mut out)?;
-    }
     Ok(out)
 }
 
-fn put_relocation(
-    (offset, kind, symbol, addend): (u64, u32, u32, u64),
-    out: &mut Vec<u8>,
-) -> Result<(), AllocError> {
-    put_64(offset, out)?;
-    put_32(kind, out)?;
-    put_32(symbol, out)?;
-    put_64(addend, out)
-}
-
-/// The symbols, of which `main` alone has a name.
-fn put_symbols(out: &mut Vec<u8>) -> Result<(), AllocError> {
-    out.extend_from_slice(&[0; 24])?;
-    for (info, section, value) in SYMBOLS {
-        put_32(if info == 0 { 0 } else { 1 }, out)?;
-        out.extend_from_slice(&[info, 0])?;
-        out.extend_from_slice(&section.to_le_bytes())?;
-        put_64(value, out)?;
-        put_64(0, out)?;
+/// The headers of the sections, whose contents stand behind them in their order.
+fn put_sections(parts: &Parts<'_>, out: &mut Vec<u8>) -> Result<(), AllocError> {
+    let code = size_of(parts.words.len(), 4);
+    let code_relocations = size_of(parts.code_relocations.len(), 24);
+    let data = size_of(parts.data.len(), 1);
+    let data_relocations = size_of(parts.data_relocations.len(), 24);
+    let symbols = size_of(parts.symbols.len(), 24).wrapping_add(24);
+    put_header((0, 0, 0, 0, 0, 0, 0, 0, 0), out)?;
+    let mut at = 512u64;
+    for (kind, flags, size, link, info, align, entry_size) in [
+        (1, 6, code, 0, 0, 4, 0),
+        (4, 0, code_relocations, 5, 1, 8, 24),
+        (1, 2, data, 0, 0, 8, 0),
+        (4, 0, data_relocations, 5, 3, 8, 24),
+        (2, 0, symbols, 6, local_symbols(parts), 8, 24),
+        (3, 0, 6, 0, 0, 1, 0),
+    ] {
+        put_header(
+            (0, kind, flags, at, size, link, info, align, entry_size),
+            out,
+        )?;
+        at = at.wrapping_add(size);
     }
     Ok(())
 }
 
-fn put_section(
-    header: (u32, u64, u64, u64, u32, u32, u64, u64),
-    out: &mut Vec<u8>,
-) -> Result<(), AllocError> {
-    let (kind, flags, offset, size, link, info, align, entry_size) = header;
-    put_32(0, out)?;
-    put_32(kind, out)?;
-    put_64(flags, out)?;
-    put_64(0, out)?;
-    put_64(offset, out)?;
-    put_64(size, out)?;
-    put_32(link, out)?;
-    put_32(info, out)?;
-    put_64(align, out)?;
-    put_64(entry_size, out)
+/// How many symbols are local, with the one of number 0. They stand before the others.
+fn local_symbols(parts: &Parts<'_>) -> u32 {
+    let mut count = 1u32;
+    for (info, _, _) in parts.symbols {
+        if *info == 0 {
+            count = count.wrapping_add(1);
+        }
+    }
+    count
 }
 
-fn put_32(n: u32, out: &mut Vec<u8>) -> Result<(), AllocError> {
-    out.extend_from_slice(&n.to_le_bytes())
+fn size_of(count: usize, each: u64) -> u64 {
+    (count as u64).wrapping_mul(each)
 }
 
-fn put_64(n: u64, out: &mut Vec<u8>) -> Result<(), AllocError> {
-    out.extend_from_slice(&n.to_le_bytes())
+fn put_relocations(rows: &[RelocationRow], out: &mut Vec<u8>) -> Result<(), AllocError> {
+    for (offset, kind, symbol, addend) in rows {
+        put_relocation(*offset, *kind, *symbol, *addend, out)?;
+    }
+    Ok(())
 }

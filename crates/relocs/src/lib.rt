@@ -50,6 +50,3 @@ pub fn images_have_lengths()
 {
     aligned_is_least();
 }
-
-#[cfg(test)]
-mod tests;

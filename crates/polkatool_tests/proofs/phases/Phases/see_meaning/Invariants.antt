@@ -1,4 +1,4 @@
-use Rattle.polkatool_tests.proofs.link_tests.Phases.meaning.Given as goal
+use Rattle.polkatool_tests.proofs.phases.Phases.see_meaning.Given as goal
 
 abbrev pub ghost-meaning : goal.ghost-meaning
 ghost-meaning g a = g.given

@@ -1,4 +1,4 @@
-use Rattle.polkatool_tests.proofs.link_tests.Phases.operand.Given as goal
+use Rattle.polkatool_tests.proofs.phases.Phases.operand.Given as goal
 
 abbrev pub ghost-new : goal.ghost-new
 ghost-new g a = g.given

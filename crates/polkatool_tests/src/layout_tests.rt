@@ -1,15 +1,19 @@
-ghost use Rattle.std.specs.Prelude.{◌≡◌, ◌<◌, length, MatchResult};
-ghost use Rattle.symbols.specs.Resolved.{IsResolved};
-ghost use Rattle.symbols.specs.Wanted.{Wanted as TheWanted, given_of};
-ghost use Rattle.layout.specs.Placed.{IsPlaced};
-ghost use Rattle.layout.specs.Faults.{Refuses};
+//! Where the data of objects are placed, and the limits of their parts.
 
-use super::*;
+ghost use Rattle.symbols.specs.Wanted.{given_of};
+ghost use Rattle.layout.specs.Placed.{IsPlaced};
+
+use crate::phases::place;
 use elf_objects::{Object, Objects};
+use layout::{
+    CODE_TOO_LARGE, LayoutFault, Placed, READ_ONLY_TOO_LARGE, WRITABLE_TOO_LARGE, ZERO_TOO_LARGE,
+    aligned_is_least, zero_pages_are_least,
+};
+use object_parts::{put_file_header, put_header};
 use std::alloc::{AllocError, Global};
 use std::process::Abort;
 use std::test::*;
-use symbols::{Resolved, Wanted, resolve};
+use symbols::{Wanted, resolve};
 
 /// A section: its type and flags, its size and its alignment.
 type Row = ((u32, u64), u64, u64);
@@ -33,17 +37,7 @@ const CONTENT: u16 = 4096;
 fn file_of(alloc: Global, rows: &[Row]) -> Result<Vec<u8>, AllocError> {
     let mut out = Vec::new(alloc);
     let strings = (rows.len() % 100) as u16 + 1;
-    out.extend_from_slice(b"\x7fELF\x02\x01\x01\0\0\0\0\0\0\0\0\0")?;
-    put_16(1, &mut out)?;
-    put_16(243, &mut out)?;
-    put_32(1, &mut out)?;
-    put_64(0, &mut out)?;
-    put_64(0, &mut out)?;
-    put_64(u64::from(CONTENT) + 64, &mut out)?;
-    put_32(8, &mut out)?;
-    for number in [64u16, 0, 0, 64, strings + 1, strings] {
-        put_16(number, &mut out)?;
-    }
+    put_file_header(u64::from(CONTENT) + 64, strings + 1, strings, &mut out)?;
     for _ in 0..CONTENT {
         out.push(0)?;
     }
@@ -57,27 +51,7 @@ fn file_of(alloc: Global, rows: &[Row]) -> Result<Vec<u8>, AllocError> {
 
 fn put_section(row: Row, out: &mut Vec<u8>) -> Result<(), AllocError> {
     let ((kind, flags), size, align) = row;
-    put_32(0, out)?;
-    put_32(kind, out)?;
-    put_64(flags, out)?;
-    put_64(0, out)?;
-    put_64(64, out)?;
-    put_64(size, out)?;
-    put_64(0, out)?;
-    put_64(align, out)?;
-    put_64(0, out)
-}
-
-fn put_16(n: u16, out: &mut Vec<u8>) -> Result<(), AllocError> {
-    out.extend_from_slice(&n.to_le_bytes())
-}
-
-fn put_32(n: u32, out: &mut Vec<u8>) -> Result<(), AllocError> {
-    out.extend_from_slice(&n.to_le_bytes())
-}
-
-fn put_64(n: u64, out: &mut Vec<u8>) -> Result<(), AllocError> {
-    out.extend_from_slice(&n.to_le_bytes())
+    put_header((0, kind, flags, 64, size, 0, 0, align, 0), out)
 }
 
 /// Reads an object and adds it to the list the given number of times.
@@ -95,33 +69,6 @@ fn add_objects<'a>(
         objects.push(Object::read(alloc, file, number)?)?;
     }
     Ok(())
-}
-
-/// Places the sections of objects, by what their symbols stand for under the wanted names.
-fn place(
-    alloc: Global,
-    objects: &Objects<'_>,
-    wanted: &Wanted,
-    resolved: &Resolved,
-) -> Result<Placed, LayoutFault>
-    requires { IsResolved (given_of objects.now wanted.now) resolved.now }
-    ensures { MatchResult result (IsPlaced (given_of objects.now wanted.now)) (Refuses (given_of objects.now wanted.now)) }
-{
-    place_under(alloc, objects, wanted, resolved)
-}
-
-fn place_under(
-    alloc: Global,
-    objects: &Objects<'_>,
-    wanted: &Wanted,
-    resolved: &Resolved,
-) -> Result<Placed, LayoutFault>
-    ghost names: { TheWanted }
-    requires resolved { IsResolved (given_of objects.now names) resolved.now }
-    requires same { names ≡ wanted.now }
-    ensures { MatchResult result (IsPlaced (given_of objects.now names)) (Refuses (given_of objects.now names)) }
-{
-    place_all(alloc, objects, resolved, wanted.stack())
 }
 
 /// The address of a section.
@@ -212,38 +159,35 @@ fn fault_of(rt: &impl Abort, alloc: Global, rows: &[Row], times: u32) -> Result<
 
 #[test]
 fn parts_have_limits(rt: HostRuntime) -> Result<(), Fail> {
-    let read_only = [(READ_ONLY, 4096, 1); 16];
-    assert_eq!(rt; fault_of(&rt, rt.alloc(), &read_only, 255)?, 0);
-    assert_eq!(rt;
-        fault_of(&rt, rt.alloc(), &read_only, 256)?,
-        READ_ONLY_TOO_LARGE
-    );
-    let writable = [(WRITABLE, 4096, 1); 16];
-    assert_eq!(rt; fault_of(&rt, rt.alloc(), &writable, 255)?, 0);
-    assert_eq!(rt;
-        fault_of(&rt, rt.alloc(), &writable, 256)?,
-        WRITABLE_TOO_LARGE
-    );
+    for (kind, times, code) in [
+        (READ_ONLY, 255, 0),
+        (READ_ONLY, 256, READ_ONLY_TOO_LARGE),
+        (WRITABLE, 255, 0),
+        (WRITABLE, 256, WRITABLE_TOO_LARGE),
+        (CODE, 256, 0),
+        (CODE, 257, CODE_TOO_LARGE),
+    ] {
+        let rows = [(kind, 4096, 1); 16];
+        assert_eq!(rt; fault_of(&rt, rt.alloc(), &rows, times)?, code, "{times}");
+    }
     let mut both = [(READ_ONLY, 4096, 1); 32];
     for row in &mut both[..16] {
         *row = (WRITABLE, 4096, 1);
     }
     assert_eq!(rt; fault_of(&rt, rt.alloc(), &both, 256)?, READ_ONLY_TOO_LARGE);
-    let code = [(CODE, 4096, 1); 16];
-    assert_eq!(rt; fault_of(&rt, rt.alloc(), &code, 256)?, 0);
-    assert_eq!(rt; fault_of(&rt, rt.alloc(), &code, 257)?, CODE_TOO_LARGE);
     Ok(())
 }
 
 #[test]
 fn zeros_have_a_limit(rt: HostRuntime) -> Result<(), Fail> {
-    assert_eq!(rt; fault_of(&rt, rt.alloc(), &[(ZERO, 0x0fff_f000, 1)], 1)?, 0);
-    assert_eq!(rt;
-        fault_of(&rt, rt.alloc(), &[(ZERO, 0x0fff_f001, 1)], 1)?,
-        ZERO_TOO_LARGE
-    );
-    let largest = [(ZERO, u64::MAX, 4096)];
-    assert_eq!(rt; fault_of(&rt, rt.alloc(), &largest, 3)?, ZERO_TOO_LARGE);
+    for (size, align, times, code) in [
+        (0x0fff_f000, 1, 1, 0),
+        (0x0fff_f001, 1, 1, ZERO_TOO_LARGE),
+        (u64::MAX, 4096, 3, ZERO_TOO_LARGE),
+    ] {
+        let rows = [(ZERO, size, align)];
+        assert_eq!(rt; fault_of(&rt, rt.alloc(), &rows, times)?, code, "{size:x}");
+    }
     Ok(())
 }
 
