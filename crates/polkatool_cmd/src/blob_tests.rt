@@ -123,12 +123,12 @@ fn refuses_what_is_no_container(rt: HostRuntime) -> Result<(), Fail> {
     Ok(())
 }
 
-/// A container with data and a host call, which isn't run yet, is checked and disassembled.
+/// A container with data and a call on inner machines, which isn't run yet, is checked and disassembled.
 #[test]
 fn takes_data_and_every_opcode(rt: HostRuntime) -> Result<(), Fail> {
     let blob = &OF_READ_ONLY_DATA;
     let refusal = b"refused 54 OpenEnd object=0 section=0 offset=3\n";
-    let text = b"code 5 table 0 width 1\n00000000 330705 load_imm r7 5\n00000003 0a00 ecalli 0\n";
+    let text = b"code 5 table 0 width 1\n00000000 330705 load_imm r7 5\n00000003 0a08 ecalli 8\n";
     assert!(rt; runs_to(rt.alloc(), blob, &CHECK, Status::Refused, b"", refusal)?);
     assert!(rt; runs_to(rt.alloc(), blob, &DISASSEMBLE, Status::Done, text, b"")?);
     Ok(())

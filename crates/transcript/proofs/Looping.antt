@@ -28,7 +28,7 @@ use Rattle.transcript.specs.declared.run_end.RunEnd.TheVariants as run_end
 abbrev pub left_of : List Reply → ℕ → HostState
 left_of replies given = record { replies = drop given replies; given = given; inner = finite.empty }
 
--- what stands at a place, and behind it
+-- the reply at a place, and those from there on
 pub place : (replies : List Reply) (n : ℕ) → n < length replies → (r : Reply) × (slice_get replies n ≡ Some r) × (drop n replies ≡ r ∷ drop (n + 1) replies)
 place [] n less = absurd (omega arith)
 place (r ∷ rs) zero less = (r, refl, refl)
@@ -40,8 +40,9 @@ none_left [] (suc n) all = absurd (omega arith)
 none_left (r ∷ rs) zero all = absurd (omega arith)
 none_left (r ∷ rs) (suc n) all = none_left rs n (omega arith)
 
--- The invariant of the loop, where the machine is here and so many replies were given: the whole run is what was told and
--- begun so far, and then the run from here with the replies that are left; the lines of what was told were put.
+-- The invariant of the loop, with a machine and the number of replies that were given: the whole run is the events and
+-- the instructions up to here, and then the run from here with the replies that are left. The lines of the events are on the
+-- sink.
 pub record SoFar (replies : List Reply) (first : Machine) (old : Stream) (given : ℕ) (m : Machine) (now : Stream) : Type 0 where
   pub events : List Event
   pub begun : ℕ
@@ -78,7 +79,7 @@ module _ (replies : List Reply) (first : Machine) (old : Stream) (given : ℕ) (
   same_run =
       sym (ap (λ t. whole_run replies (record first { table = t; code = m.code })) so.table ∙ ap (λ c. whole_run replies (record first { code = c })) so.code)
 
-  -- what was put is a prefix of the transcript, however the run goes on
+  -- the lines on the sink are a prefix of the transcript, however the run goes on
   put_before : AppendsFront old.text now.text (transcript (whole_run replies first))
   put_before =
       let run = whole_run replies first in

@@ -61,7 +61,7 @@ number_fits i n d few small digit =
     let next : 16 * n + d < 16 ^ (i + 1) = omega (arith, more, small, digit) in
     (omega (arith, next, most, top), omega (arith, next, most, top), next)
 
--- there are 1 to so many digits, or there aren't
+-- digits that are few enough
 pub hex_number-of : (most : ℕ) (digits : List ℕ) → 0 < length digits → length digits ≤ most → hex_number most digits ≡ digits_after digits 0
 hex_number-of most digits some few =
     let first : nat_lt 0 (length digits) ≡ true = grind (arith, nat_tests) in

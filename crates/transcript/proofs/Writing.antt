@@ -8,7 +8,7 @@ use Rattle.page_memory.specs.Ranges.{is_barred, IsLeastBarred}
 use Rattle.page_memory.proofs.Parts.{modes_stay}
 use Rattle.transcript.specs.Hosts.{first_refused, or_else, refused_of, with_pieces}
 
--- what stands at a place, and behind it
+-- the element at a place, and those from there on
 pub drop_at : {A : Type 0} (xs : List A) (n : ℕ) (x : A) → slice_get xs n ≡ Some x → drop n xs ≡ x ∷ drop (n + 1) xs
 drop_at [] n x is = cc
 drop_at (y ∷ ys) zero x is = let e : y ≡ x = cc in ap (λ z. z ∷ ys) e

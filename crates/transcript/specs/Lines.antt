@@ -31,7 +31,7 @@ unanswered_line number = number_field (codes "unanswered call=") number ++ codes
 unfoldable pub bad_reply_line : ℕ → ℕ → List ℕ
 bad_reply_line line address = number_field (codes "bad-reply line=") line ++ address_field address ++ codes "\n"
 
--- the line of an end; no end is that of gas
+-- the line of an end; a run that is out of gas has none
 unfoldable pub end_line : Option End → List ℕ
 end_line None = codes "out-of-gas\n"
 end_line (Some (Halt registers memory)) = codes "halt output=" ++ hex (output registers memory) ++ codes "\n"

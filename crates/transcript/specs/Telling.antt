@@ -24,7 +24,7 @@ pub record IsCutOff (run : Paid Event End) (old new : Stream) : Type 0 where
   pub told : AppendsFront old.text new.text (transcript run)
   pub cause : Rose old.puts new.puts
 
--- An allocation failed at an `sbrk` that would map pages, where the machine stands now; the lines of the calls before it
+-- An allocation failed at an `sbrk` that would map pages, where the machine is now; the lines of the calls before it
 -- were put, a prefix of the transcript.
 pub record IsStopped (run : Paid Event End) (m : Machine) (old new : Stream) : Type 0 where
   pub events : List Event

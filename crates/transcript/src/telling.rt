@@ -12,7 +12,7 @@ use crate::run_end::RunEnd;
 use outside::{Failed, Sink};
 use pvm_machine::{Exit, Machine};
 
-/// Why a run is not told to its end.
+/// Why a run has no whole transcript.
 #[derive(Clone, Copy, Debug, PartialEq, Eq)]
 pub enum TellFault {
     /// A put failed.
