@@ -170,7 +170,7 @@ fn see_immediate(rt: &impl Abort, alloc: Global, row: (u8, u64, i8, u64)) -> Res
 }
 
 /// An opcode, registers 7 and 8, and what register 9 takes.
-const BINARY_32: [(u8, u64, u64, u64); 17] = [
+const BINARY_32: [(u8, u64, u64, u64); 19] = [
     (190, 0x7fff_ffff, 1, LEAST_32),
     (191, 0, 1, ONES),
     (192, 0x1_0000, 0x8000, LEAST_32),
@@ -179,10 +179,12 @@ const BINARY_32: [(u8, u64, u64, u64); 17] = [
     (194, MINUS_SEVEN, 2, MINUS_THREE),
     (194, 0x8000_0000, ONES, LEAST_32),
     (194, 1, 0, ONES),
+    (194, 5, 0x1_0000_0000, ONES),
     (195, 0xffff_ffff, 16, 15),
     (195, 0x8000_0001, 0, 0xffff_ffff_8000_0001),
     (196, MINUS_SEVEN, 2, ONES),
     (196, 0x8000_0000, ONES, 0),
+    (196, 0x1_8000_0001, 0, 0xffff_ffff_8000_0001),
     (197, 1, 31, LEAST_32),
     (197, 1, 32, 1),
     (198, 0x8000_0000, 32, LEAST_32),

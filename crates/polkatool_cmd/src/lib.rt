@@ -13,35 +13,21 @@ ghost use Rattle.polkatool_cmd.specs.Answers.{Concludes, KeepsFiles};
 mod answer;
 mod argument;
 mod blob;
-#[cfg(test)]
-mod blob_tests;
 mod check;
 mod command;
 mod commands;
 mod disassemble;
 mod fault_codes;
 mod fault_names;
-#[cfg(test)]
-mod fault_names_tests;
 mod items;
 mod link_command;
 mod link_objects;
 mod link_words;
-#[cfg(test)]
-mod link_words_tests;
-#[cfg(test)]
-mod memory_tests;
-#[cfg(test)]
-mod replies_tests;
 mod report;
 mod run;
 mod run_fault;
-#[cfg(test)]
-mod run_tests;
 mod run_words;
 mod status;
-#[cfg(test)]
-mod tests;
 mod values;
 mod words;
 

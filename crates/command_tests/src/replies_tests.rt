@@ -1,8 +1,8 @@
 //! Runs with a file of replies.
 
-use crate::Status;
-use crate::tests::{Outside, run};
+use crate::fixtures::{Outside, run};
 use outside::{MemoryFolder, MemorySink};
+use polkatool_cmd::Status;
 use std::alloc::{AllocError, Global};
 use std::test::Fail;
 

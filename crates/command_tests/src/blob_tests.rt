@@ -1,8 +1,7 @@
 //! Checks and disassemblies of whole programs: what is put, byte for byte.
 
-use crate::Status;
-use crate::run_tests::{FILE_FAULT, FIVE, OF_READ_ONLY_DATA, blob, outside_of, runs_to};
-use crate::tests::{is_faulty, run};
+use crate::fixtures::*;
+use polkatool_cmd::Status;
 use std::alloc::{AllocError, Global};
 use std::test::Fail;
 

@@ -1,8 +1,7 @@
 //! Runs of whole programs: what is put, byte for byte.
 
-use crate::Status;
-use crate::tests::{Outside, container, is_faulty, object, object_of_one_word, outside_with, run};
-use outside::{MemoryFolder, MemorySink};
+use crate::fixtures::*;
+use polkatool_cmd::Status;
 use std::alloc::{AllocError, Global};
 use std::test::Fail;
 
@@ -13,54 +12,11 @@ const OF_LONG_OUTPUT: [u8; 30] = [
     0x08, 0xc8, 0, 0x32, 0, 0x11, 0x01,
 ];
 
-/// The program of `examples/five`, whose code is `jump 5`, `load_imm a0, 5` and `jump_ind ra, 0`.
-pub(crate) const FIVE: &[u8; 15] = b"\x00\x01\x0a\x28\x05\0\0\0\x33\x07\x05\x32\0\x21\x01";
-
 /// A program whose code is `load_imm a0, 5` and, at position 3, `ecalli 8`.
 const OF_A_CALL: &[u8; 9] = b"\x00\x01\x05\x33\x07\x05\x0a\x08\x09";
 
 /// A program whose code is `load_imm a0, 5` and, at position 3, `sbrk a0, a0`. Behind it the code ends.
 const OF_GROWTH: &[u8; 9] = b"\x00\x01\x05\x33\x07\x05\x65\x77\x09";
-
-/// Its container has a byte of read-only data.
-pub(crate) const OF_READ_ONLY_DATA: [u8; 25] = [
-    1, 0, 0, 0, 0, 0, 0, 0, 0, 0, 1, 0x2a, 0x09, 0, 0, 0, 0, 0x01, 0x05, 0x33, 0x07, 0x05, 0x0a, 8,
-    0x09,
-];
-
-pub(crate) const FILE_FAULT: &[u8; 22] = b"polkatool: file fault\n";
-
-/// A folder with a blob under `b`, and room on out for a long output.
-pub(crate) fn outside_of(alloc: Global, blob: &[u8]) -> Result<Outside, AllocError> {
-    let mut files = MemoryFolder::new(alloc);
-    files.add("b", blob)?;
-    Ok(Outside {
-        files,
-        out: MemorySink::new(alloc, 1000)?,
-        err: MemorySink::new(alloc, 100)?,
-    })
-}
-
-/// A container with a stack of 65,536 bytes and these bytes behind it, of which so many are said to be its program.
-pub(crate) fn blob(alloc: Global, len: u8, program: &[u8]) -> Result<Vec<u8>, AllocError> {
-    let mut blob = Vec::from_slice(alloc, &[0, 0, 0, 0, 0, 0, 0, 0, 0, 0, 1, len, 0, 0, 0])?;
-    blob.extend_from_slice(program)?;
-    Ok(blob)
-}
-
-/// Whether the words, with this blob, come to the status and leave these bytes on out and err.
-pub(crate) fn runs_to(
-    alloc: Global,
-    blob: &[u8],
-    line: &[&[u8]],
-    status: Status,
-    out: &[u8],
-    err: &[u8],
-) -> Result<bool, AllocError> {
-    let mut outside = outside_of(alloc, blob)?;
-    let answer = run(alloc, &mut outside, line)?;
-    Ok(answer == status && outside.out.bytes() == out && outside.err.bytes() == err)
-}
 
 /// Whether these words run the program to the end with this transcript.
 fn ends_with(

@@ -1,9 +1,8 @@
 //! Runs with arguments, data, loads and stores: what is put, byte for byte.
 
-use crate::Status;
-use crate::run_tests::{blob, outside_of, runs_to};
-use crate::tests::{is_faulty, run};
+use crate::fixtures::*;
 use outside::MemorySink;
+use polkatool_cmd::Status;
 use std::alloc::{AllocError, Global};
 use std::test::Fail;
 
