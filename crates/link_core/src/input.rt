@@ -1,12 +1,11 @@
 //! What a link is given, and its parts by their numbers.
 
 ghost use Rattle.std.specs.Prelude.{◌≡◌, ◌≤◌, ◌<◌, ◌^◌, [], length, slice_get, Some, IsSomeAnd, MatchResult};
-ghost use Rattle.elf_objects.specs.Objects.{ShowsSection, relocations_of};
+ghost use Rattle.elf_objects.specs.Objects.{ShowsSection};
 ghost use Rattle.symbols.specs.Wanted.{Given};
 ghost use Rattle.symbols.specs.Resolved.{IsResolved};
-ghost use Rattle.symbols.specs.Resolution.{resolution};
 ghost use Rattle.symbols.specs.Faults.{symbol_faults};
-ghost use Rattle.symbols.specs.Parts.{object_at, sections_of, symbol_count};
+ghost use Rattle.symbols.specs.Parts.{sections_of};
 ghost use Rattle.layout.specs.Addresses.{address_of, got_of, zero_pages};
 ghost use Rattle.layout.specs.Faults.{layout_faults};
 ghost use Rattle.layout.specs.Placed.{IsPlaced};
@@ -16,13 +15,13 @@ ghost use Rattle.lift_blocks.specs.Listed.{Lifts};
 ghost use Rattle.lift_blocks.specs.Kept.{Refuses as CodeRefuses};
 
 use crate::phases::images_with;
-use elf_objects::{Objects, Relocation, Section};
+use elf_objects::{Objects, Section};
 use layout::Placed;
 use lift_blocks::{LiftFault, Lifted, lift};
 use relocs::{CodeMap, Images, RelocFault};
 use std::alloc::Global;
 use std::marker::Model;
-use symbols::{Place, Resolved, Wanted};
+use symbols::{Resolved, Wanted};
 
 /// Objects and wanted names without a fault in their symbols and their layout, what the names stand for, and where the
 /// data are loaded.
@@ -85,33 +84,6 @@ impl<'a> Input<'a> {
         ensures { IsSomeAnd (slice_get (sections_of (slice_get self.now.objects object)) section) (ShowsSection result) }
     {
         self.objects.object(object).section(section)
-    }
-
-    /// How many relocations a section has.
-    pub(crate) fn relocations(&self, object: u32, section: u32) -> u32
-        requires { section < length (sections_of (slice_get self.now.objects object)) }
-        ensures { result ≡ length (relocations_of (object_at self.now.objects object) section) }
-    {
-        self.objects.object(object).relocations(section)
-    }
-
-    /// A relocation of a section.
-    pub(crate) fn relocation(&self, object: u32, section: u32, at: u32) -> Relocation
-        requires section { section < length (sections_of (slice_get self.now.objects object)) }
-        requires at { at < length (relocations_of (object_at self.now.objects object) section) }
-        ensures value { slice_get (relocations_of (object_at self.now.objects object) section) at ≡ Some result }
-        ensures symbol { result.symbol < symbol_count self.now.objects object }
-    {
-        self.objects.object(object).relocation(section, at)
-    }
-
-    /// What a symbol of an object stands for.
-    pub(crate) fn symbol_place(&self, object: u32, symbol: u32) -> Place
-        requires object { object < length self.now.objects }
-        requires symbol { symbol < symbol_count self.now.objects object }
-        ensures { result ≡ resolution self.now object symbol }
-    {
-        self.resolved.place(object, symbol)
     }
 
     /// The address of a section. Code has none, nor what isn't loaded.

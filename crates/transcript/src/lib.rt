@@ -6,7 +6,7 @@
 #![tactic(auto)]
 
 mod lines;
-mod numbers;
+mod number_parts;
 mod output;
 mod parts;
 mod replies;

@@ -6,7 +6,7 @@ ghost use Rattle.page_memory.specs.Access.{with_bytes};
 ghost use Rattle.transcript.specs.Grammar.{FailsToRead, piece_in, piece_of, replies_of, reply_of, pieces_of, words_of};
 ghost use Rattle.transcript.specs.Hosts.{IsRepliedBy, first_refused, refused_of, with_pieces};
 
-use crate::numbers::{hex_number, register_value};
+use crate::number_parts::{hex_number, register_value};
 use crate::parts::{first_line, first_part};
 use crate::reply_fault::ReplyFault;
 use hex::FromHexError;

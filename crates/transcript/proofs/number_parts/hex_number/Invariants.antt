@@ -1,6 +1,6 @@
 use Rattle.std.proofs.Common.{◌≡◌, ◌<◌, ◌^◌, drop}
 use Rattle.transcript.specs.Grammar.{digits_after}
-use Rattle.transcript.proofs.numbers.hex_number.Given as goal
+use Rattle.transcript.proofs.number_parts.hex_number.Given as goal
 
 abbrev pub invariant-loop-byte : goal.invariant-loop-byte
 invariant-loop-byte l = record {

@@ -2,7 +2,7 @@ use Rattle.std.proofs.Common.{◌≡◌, ◌<◌, ◌+◌, length, drop, get_or,
 use Rattle.hex.specs.Hex.{hex_digit_value}
 use Rattle.transcript.specs.Grammar.{digit_after, digits_after}
 use Rattle.transcript.proofs.Reading.{digits_after-at, digits_after-end, number_fits, hex_number-of}
-use Rattle.transcript.proofs.numbers.hex_number.Goals as goal
+use Rattle.transcript.proofs.number_parts.hex_number.Goals as goal
 
 pub overflow_mul-number : goal.overflow_mul-number
 overflow_mul-number c = omega (arith, (number_fits c.loop-byte.byte-index c.loop-byte.number 0 (omega arith) c.loop-byte.invariant.small (omega arith)).0)
