@@ -1,14 +1,14 @@
 -- The machine goes on to the place after an operation only where the operation is no pair.
-use Rattle.std.proofs.Common.{◌≡◌, ℕ, ◌+◌, Bool, true, false, List, Option, Some, None, refl, sym, ◌∙◌}
+use Rattle.std.proofs.Common.{◌≡◌, ◌+◌, Bool, true, false, List, Option, Some, None, refl, sym, ◌∙◌}
 use Rattle.rv_decode.specs.declared.ops.RvOp.{RvOp}
 use Rattle.rv_decode.specs.declared.ops.RvOp.TheVariants as rv
 use Rattle.symbols.specs.Wanted.{Given}
 use Rattle.relocs.specs.AddressMap.{needed_places}
-use Rattle.relocs.specs.Pairs.{is_pair, is_pair_at, next_place}
+use Rattle.relocs.specs.Pairs.{is_pair, is_pair_at}
 use Rattle.relocs.specs.Places.{CodePlace, Code, Stub, Nowhere}
 use Rattle.relocs.specs.Words.{raw_at}
 use Rattle.lift_blocks.specs.Listed.{can_go_on}
-use Rattle.lift_blocks.specs.Operations.{Operation, Pair, if_link, pair_op, target_or, operand_at, operation_at, operation_in}
+use Rattle.lift_blocks.specs.Operations.{Operation, Pair, if_link, pair_op, operation_at, operation_in}
 
 pair_ends : (needed : List CodePlace) (next target : CodePlace) (first second : Option RvOp) (op : Operation CodePlace) → pair_op needed next target first second ≡ Some op → can_go_on op ≡ false
 pair_ends needed next target None second op e = absurd cc

@@ -1,7 +1,7 @@
 -- The codes of the faults of relocations of code are 25 at least, the code of several at one offset.
 use Rattle.std.proofs.Common.{◌≡◌, ℕ, zero, suc, ◌≤◌, min, Bool, true, false, List, [], ◌∷◌, length, Option, Some, None, refl, sym, ap, ◌∙◌, arith}
 use Rattle.std.specs.Prelude.{not, nat_lt, if◌then◌else◌, ℤ, pos, negsuc}
-use Rattle.std.specs.List.{filter_map, cons_option}
+use Rattle.std.specs.List.{filter_map}
 use Rattle.faults.specs.First.{◌or_else◌, where_true}
 use Rattle.elf_objects.specs.declared.parts.Relocation.{Relocation}
 use Rattle.symbols.specs.declared.place.Place.{Place}
