@@ -23,15 +23,21 @@ fn load_five() -> Instr
 
 #[tactic(auto, unfolding(pvm_ops::specs::Opcodes::is_known, pvm_ops::specs::Opcodes::form_of))]
 #[test]
-fn what_is_spelled_is_fetched_up_to_the_next_mark(rt: HostRuntime) -> Result<(), Fail> {
+fn an_instruction_is_spelled(rt: HostRuntime) -> Result<(), Fail> {
     reads_back();
-    marks_come_back();
-    stops_come_back();
     let mut out = Bytes8::new(rt.alloc());
     encode_into(&load_five(), 4, &mut out)?;
     encode_into(&load_five(), 4, &mut out)?;
     assert_eq!(rt; out.as_slice(), [51, 7, 5, 51, 7, 5].as_slice());
-    let code = Code::new(out.as_slice(), &[0x09]);
+    Ok(())
+}
+
+#[test]
+fn what_stands_at_a_mark_is_fetched(rt: HostRuntime) {
+    marks_come_back();
+    stops_come_back();
+    let bytes = [51, 7, 5, 51, 7, 5];
+    let code = Code::new(&bytes, &[0x09]);
     for (at, marked, next) in [(0, true, 3), (1, false, 1), (3, true, 6), (6, false, 6)] {
         assert_eq!(rt; code.marked(at), marked, "at {at}");
         let fetched = fetch(&code, at);
@@ -41,7 +47,6 @@ fn what_is_spelled_is_fetched_up_to_the_next_mark(rt: HostRuntime) -> Result<(),
     for (at, nearest) in [(0, None), (3, Some(0)), (5, Some(3))] {
         assert_eq!(rt; code.mark_before(at), nearest, "before {at}");
     }
-    Ok(())
 }
 
 #[test]

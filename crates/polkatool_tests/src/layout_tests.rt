@@ -87,10 +87,9 @@ fn address_of(
     placed.address(object, section)
 }
 
-#[test]
-fn sections_have_their_addresses(rt: HostRuntime) -> Result<(), Fail> {
-    let first = file_of(
-        rt.alloc(),
+fn first_object(alloc: Global) -> Result<Vec<u8>, AllocError> {
+    file_of(
+        alloc,
         &[
             (CODE, 8, 4),
             (READ_ONLY, 5, 1),
@@ -99,23 +98,42 @@ fn sections_have_their_addresses(rt: HostRuntime) -> Result<(), Fail> {
             (WRITABLE, 7, 8),
             (ZERO, 9, 32),
         ],
-    )?;
-    let second = file_of(
-        rt.alloc(),
+    )
+}
+
+fn second_object(alloc: Global) -> Result<Vec<u8>, AllocError> {
+    file_of(
+        alloc,
         &[
             (ZERO, 1, 4096),
             (READ_ONLY, 6, 8),
             (WRITABLE, 4, 0),
             (ZERO, 0, 64),
         ],
-    )?;
+    )
+}
+
+#[test]
+fn sections_have_their_addresses(rt: HostRuntime) -> Result<(), Fail> {
+    let first = first_object(rt.alloc())?;
+    let second = second_object(rt.alloc())?;
     let mut objects = Objects::new(rt.alloc());
     add_objects(&rt, rt.alloc(), &mut objects, &first, 1)?;
     add_objects(&rt, rt.alloc(), &mut objects, &second, 1)?;
     let wanted = Wanted::new(rt.alloc(), 4096);
     let resolved = resolve(rt.alloc(), &objects, &wanted)?;
     let placed = place(rt.alloc(), &objects, &wanted, &resolved)?;
-    let addresses = [
+    see_addresses(&rt, &objects, &wanted, &placed);
+    assert_eq!(rt; placed.read_only_len(), 0x1e);
+    assert_eq!(rt; placed.writable_len(), 11);
+    assert_eq!(rt; placed.zero_pages(), 1);
+    Ok(())
+}
+
+fn see_addresses(rt: &impl Abort, objects: &Objects<'_>, wanted: &Wanted, placed: &Placed)
+    requires { IsPlaced (given_of objects.now wanted.now) placed.now }
+{
+    for (object, section, address) in [
         (0, 0, None),
         (0, 1, None),
         (0, 2, Some(0x10000)),
@@ -129,15 +147,10 @@ fn sections_have_their_addresses(rt: HostRuntime) -> Result<(), Fail> {
         (1, 3, Some(0x30007)),
         (1, 4, Some(0x31040)),
         (1, 5, None),
-    ];
-    for (object, section, address) in addresses {
-        let told = address_of(&rt, &objects, &wanted, &placed, object, section);
+    ] {
+        let told = address_of(rt, objects, wanted, placed, object, section);
         assert_eq!(rt; told, address, "{object}, {section}");
     }
-    assert_eq!(rt; placed.read_only_len(), 0x1e);
-    assert_eq!(rt; placed.writable_len(), 11);
-    assert_eq!(rt; placed.zero_pages(), 1);
-    Ok(())
 }
 
 /// The code of the fault of the given number of objects with these sections, and 0 where there is none.

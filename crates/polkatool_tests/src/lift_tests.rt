@@ -32,6 +32,11 @@ fn add(imm: i32) -> SourceOp {
 fn a_call_and_the_end_of_a_section(rt: HostRuntime) -> Result<(), Fail> {
     let file = code_alone(rt.alloc(), &WORDS)?;
     let lifted = lift_main(&rt, rt.alloc(), &file)??.lifted;
+    see_lifted(&rt, &lifted);
+    Ok(())
+}
+
+fn see_lifted(rt: &impl Abort, lifted: &Lifted) {
     assert_eq!(rt; lifted.len(), 5);
     assert_eq!(rt; lifted.entries(), 1);
     assert_eq!(rt; lifted.map().len(), 1);
@@ -53,11 +58,10 @@ fn a_call_and_the_end_of_a_section(rt: HostRuntime) -> Result<(), Fail> {
         (3, add(2), true),
         (4, SourceOp::Plain(RvOp::Trap), false),
     ] {
-        see_operation(&rt, &lifted, at, op, begins);
+        see_operation(rt, lifted, at, op, begins);
     }
     assert_eq!(rt; lifted.entry(0), 0);
     assert_eq!(rt; lifted.needed(0), 1);
-    Ok(())
 }
 
 fn see_operation(rt: &impl Abort, lifted: &Lifted, at: u32, op: SourceOp, begins: bool) {

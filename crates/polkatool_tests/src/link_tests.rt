@@ -201,6 +201,11 @@ fn operations_have_blocks(rt: HostRuntime) -> Result<(), Fail> {
     let file = object_file(rt.alloc())?;
     let lifted = lift_main(&rt, rt.alloc(), &file)??.lifted;
     let blocks = lower(rt.alloc(), &lifted)?;
+    see_blocks(&rt, &blocks);
+    Ok(())
+}
+
+fn see_blocks(rt: &impl Abort, blocks: &Blocks) {
     assert_eq!(rt; blocks.entries(), [0].as_slice());
     assert_eq!(rt; blocks.needed(), [2, 3, 4].as_slice());
     assert_eq!(rt; blocks.len(), 5);
@@ -211,9 +216,8 @@ fn operations_have_blocks(rt: HostRuntime) -> Result<(), Fail> {
         (3, 1, Some(3)),
         (4, 9, None),
     ] {
-        see_block(&rt, &blocks, at, instructions, target);
+        see_block(rt, blocks, at, instructions, target);
     }
-    Ok(())
 }
 
 fn see_block(rt: &impl Abort, blocks: &Blocks, at: u32, instructions: usize, target: Option<u32>) {
@@ -222,12 +226,10 @@ fn see_block(rt: &impl Abort, blocks: &Blocks, at: u32, instructions: usize, tar
     assert_eq!(rt; blocks.target(at), target, "at {at}");
 }
 
-#[test]
-fn data_hold_values_and_slots(rt: HostRuntime) -> Result<(), Fail> {
-    let file = object_file(rt.alloc())?;
-    let phases = lift_main(&rt, rt.alloc(), &file)??;
-    let images = phases.images(rt.alloc())?;
-    let want = [
+/// The read-only data after the link.
+// A function and no constant, so that what uses it sees an array and not its bytes.
+fn read_only() -> [u8; 32] {
+    [
         0x04, 0, 0, 0, 0, 0, 0, 0, // the number of the place
         0x00, 0x60, 0x34, 0x12, // the number 0x12345fff and 1
         0xf8, 0, 0, 0, // 0x100 and 0x10008, less 0x10010
@@ -236,10 +238,21 @@ fn data_hold_values_and_slots(rt: HostRuntime) -> Result<(), Fail> {
         0x01, // 0 less 0x12345fff
         0xff, 0x5f, // 0x12345fff
         0x08, 0, 0x01, 0, 0, 0, 0, 0, // the slot
-    ];
-    assert_eq!(rt; images.read_only(), want.as_slice());
-    assert!(rt; images.writable().is_empty());
+    ]
+}
+
+#[test]
+fn data_hold_values_and_slots(rt: HostRuntime) -> Result<(), Fail> {
+    let file = object_file(rt.alloc())?;
+    let phases = lift_main(&rt, rt.alloc(), &file)??;
+    let images = phases.images(rt.alloc())?;
+    see_images(&rt, &images);
     Ok(())
+}
+
+fn see_images(rt: &impl Abort, images: &Images) {
+    assert_eq!(rt; images.read_only(), read_only().as_slice());
+    assert!(rt; images.writable().is_empty());
 }
 
 #[tactic(auto, unfolding(link_core::specs::Parts::total))]
