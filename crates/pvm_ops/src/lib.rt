@@ -14,8 +14,6 @@ mod forms;
 mod instr;
 mod laws;
 mod opcodes;
-#[cfg(test)]
-mod tests;
 mod windows;
 mod words;
 

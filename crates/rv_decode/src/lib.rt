@@ -11,6 +11,3 @@ mod words;
 
 pub use ops::{Alu, AluImm, Cond, LoadWidth, Reg, RvOp, StoreWidth, WordFault};
 pub use words::decode;
-
-#[cfg(test)]
-mod tests;

@@ -1,4 +1,6 @@
-use super::*;
+//! Words of RV64EM and their operations and faults.
+
+use rv_decode::{Alu, AluImm, Cond, LoadWidth, Reg, RvOp, StoreWidth, WordFault, decode};
 use std::test::*;
 
 // The words are those that an assembler gives for the operations.

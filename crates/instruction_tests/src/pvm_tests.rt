@@ -1,8 +1,12 @@
+//! Instructions of the PVM: their spelling, what is fetched, their names, and lists of blocks.
+
 ghost use Rattle.std.specs.Prelude.{◌≡◌, ◌<◌, ◌≤◌, ◌+◌, ◌/◌, length as len_of, IsTrue};
 ghost use Rattle.pvm_ops.specs.Opcodes.{is_known};
 ghost use Rattle.pvm_ops.specs.Spelling.{IsEncodable};
 
-use super::*;
+use pvm_ops::{
+    Blocks, Bytes8, Code, Fetched, Form, Instr, encode_into, fetch, form, known, length, name,
+};
 use std::process::Abort;
 use std::test::Fail;
 
@@ -40,7 +44,7 @@ fn is_spelled(
     Ok(())
 }
 
-#[tactic(auto, unfolding(crate::specs::Opcodes::is_known, crate::specs::Opcodes::form_of))]
+#[tactic(auto, unfolding(pvm_ops::specs::Opcodes::is_known, pvm_ops::specs::Opcodes::form_of))]
 #[test]
 fn spells_immediates(rt: HostRuntime) -> Result<(), Fail> {
     let rt = &rt;
@@ -92,7 +96,7 @@ fn spells_immediates(rt: HostRuntime) -> Result<(), Fail> {
     Ok(())
 }
 
-#[tactic(auto, unfolding(crate::specs::Opcodes::is_known, crate::specs::Opcodes::form_of))]
+#[tactic(auto, unfolding(pvm_ops::specs::Opcodes::is_known, pvm_ops::specs::Opcodes::form_of))]
 #[test]
 fn spells_one_register(rt: HostRuntime) -> Result<(), Fail> {
     let rt = &rt;
@@ -167,7 +171,7 @@ fn spells_one_register(rt: HostRuntime) -> Result<(), Fail> {
     Ok(())
 }
 
-#[tactic(auto, unfolding(crate::specs::Opcodes::is_known, crate::specs::Opcodes::form_of))]
+#[tactic(auto, unfolding(pvm_ops::specs::Opcodes::is_known, pvm_ops::specs::Opcodes::form_of))]
 #[test]
 fn spells_more_registers(rt: HostRuntime) -> Result<(), Fail> {
     let rt = &rt;
@@ -289,7 +293,7 @@ fn spells_more_registers(rt: HostRuntime) -> Result<(), Fail> {
     Ok(())
 }
 
-#[tactic(auto, unfolding(crate::specs::Opcodes::is_known, crate::specs::Opcodes::form_of))]
+#[tactic(auto, unfolding(pvm_ops::specs::Opcodes::is_known, pvm_ops::specs::Opcodes::form_of))]
 #[test]
 fn spells_offsets(rt: HostRuntime) -> Result<(), Fail> {
     let rt = &rt;
