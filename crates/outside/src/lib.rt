@@ -23,6 +23,3 @@ pub use memory_sink::MemorySink;
 pub use real_folder::RealFolder;
 pub use real_sink::RealSink;
 pub use sink::Sink;
-
-#[cfg(test)]
-mod tests;

@@ -1,7 +1,7 @@
 //! What no clause says: that calls succeed, what the system's files hold, and how calls that are
 //! told to fail go on.
 
-use crate::{
+use outside::{
     Bytes, Failed, Folder, MemoryFolder, MemorySink, ReadFault, RealFolder, RealSink, Sink,
 };
 use std::io;
