@@ -6,7 +6,7 @@ use Rattle.symbols.specs.declared.wanted.ImportKind.{ImportKind}
 use Rattle.symbols.specs.declared.wanted.ImportKind.TheVariants.{Host, Sbrk}
 use Rattle.symbols.specs.Wanted.{Import, Wanted}
 use Rattle.polkatool_cmd.specs.Items.{Item, items, value_in, file_in}
-use Rattle.polkatool_cmd.specs.Values.{name_of, number_below}
+use Rattle.polkatool_cmd.specs.Values.{file_value_of, number_below}
 
 -- the name of an entry or an import: any bytes, and not none
 abbrev pub wanted_name : List ℕ → Option (List ℕ)
@@ -31,7 +31,7 @@ import_in_value value =
 
 -- the output that an item names
 abbrev pub output_in : Item → Option (List ℕ)
-output_in item = option_and_then name_of (value_in (codes "-o") item)
+output_in item = option_and_then file_value_of (value_in (codes "-o") item)
 
 -- the entry that an item names
 abbrev pub entry_in : Item → Option (List ℕ)

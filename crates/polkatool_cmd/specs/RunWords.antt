@@ -2,7 +2,7 @@
 use Rattle.std.specs.Prelude.{ℕ, ◌^◌, List, [], length, Bool, ◌&&◌, ◌||◌, ◌==◌, nat_le, if◌then◌else◌, Option, None, is_some, unwrap_or, slice_get, codes, option_map, option_and_then}
 use Rattle.std.specs.List.{filter_map, list_all}
 use Rattle.polkatool_cmd.specs.Items.{Item, items, value_in, file_in}
-use Rattle.polkatool_cmd.specs.Values.{name_of, number_below, argument_of}
+use Rattle.polkatool_cmd.specs.Values.{file_value_of, number_below, argument_of}
 
 -- the entry that an item names, below 2^32
 abbrev pub run_entry_in : Item → Option ℕ
@@ -18,7 +18,7 @@ argument_in item = option_and_then argument_of (value_in (codes "--arg") item)
 
 -- the file of replies that an item names
 abbrev pub replies_in : Item → Option (List ℕ)
-replies_in item = option_and_then name_of (value_in (codes "--replies") item)
+replies_in item = option_and_then file_value_of (value_in (codes "--replies") item)
 
 -- whether an item is one of these, or names a file
 abbrev pub is_of_run : Item → Bool

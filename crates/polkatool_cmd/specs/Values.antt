@@ -41,8 +41,8 @@ abbrev pub file_of : List ℕ → Option (List ℕ)
 file_of word = if is_file word then Some word else None
 
 -- the name of a file that the value of an option is, which may begin with '-'
-abbrev pub name_of : List ℕ → Option (List ℕ)
-name_of word = if is_name word then Some word else None
+abbrev pub file_value_of : List ℕ → Option (List ℕ)
+file_value_of word = if is_name word then Some word else None
 
 -- The bytes that a word spells, two hexadecimal digits of either case for each. None where it has another byte, or an odd
 -- number of them.
