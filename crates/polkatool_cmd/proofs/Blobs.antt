@@ -60,7 +60,7 @@ RunComesTo-unread asked (answers.Refused fault) old new fails others =
         blob_held = long.held;
         file = [];
         file_held = λ fits. absurd (omega (arith, fits, long.len));
-        first = run_fault-blob asked.entry asked.argument long.file [] long.len ∙ ap (λ f. Some f) (sym fails.0);
+        first = run_fault-blob asked.settings.entry asked.settings.argument long.file [] long.len ∙ ap (λ f. Some f) (sym fails.0);
       },
       unchanged old new others fails.2,
     )
@@ -72,20 +72,20 @@ RunComesTo-unread asked answers.Memory old new fails others = inl (unchanged old
 -- a run whose file of replies wasn't read
 pub RunComesTo-no_replies :
     (asked : RunCommand) (answer : Answer) (old new : Snapshot) (blob : List ℕ) → HoldsBlob old.files asked.blob blob
-    → FailsToReadReplies old.files asked.replies old.reads new.reads answer → new ≡ record old { reads = new.reads }
+    → FailsToReadReplies old.files asked.settings.replies old.reads new.reads answer → new ≡ record old { reads = new.reads }
     → RunComesTo asked answer old new
-RunComesTo-no_replies asked answer old new blob holds fails others = by_name asked.replies refl fails
+RunComesTo-no_replies asked answer old new blob holds fails others = by_name asked.settings.replies refl fails
   where
-    large : (name : List ℕ) (fault : Fault) → asked.replies ≡ Some name → IsTooLarge old.files name (2 ^ 20) → fault ≡ file_too_large 1 → HasRunFault old.files asked fault
+    large : (name : List ℕ) (fault : Fault) → asked.settings.replies ≡ Some name → IsTooLarge old.files name (2 ^ 20) → fault ≡ file_too_large 1 → HasRunFault old.files asked fault
     large name fault is long fault_is = record {
       blob = blob;
       blob_held = holds.held;
       file = long.file;
       file_held = λ fits. (rw is long.held);
-      first = run_fault-replies asked.entry asked.argument blob long.file holds.len long.large ∙ ap (λ f. Some f) (sym fault_is);
+      first = run_fault-replies asked.settings.entry asked.settings.argument blob long.file holds.len long.large ∙ ap (λ f. Some f) (sym fault_is);
     }
 
-    by_answer : (name : List ℕ) → asked.replies ≡ Some name → (answer : Answer) → FailsToReadOne old.files name 1 (2 ^ 20) old.reads new.reads answer → RunComesTo asked answer old new
+    by_answer : (name : List ℕ) → asked.settings.replies ≡ Some name → (answer : Answer) → FailsToReadOne old.files name 1 (2 ^ 20) old.reads new.reads answer → RunComesTo asked answer old new
     by_answer name is answers.Done fails = absurd fails
     by_answer name is answers.Panicked fails = absurd fails
     by_answer name is answers.Faulted fails = absurd fails
@@ -98,7 +98,7 @@ RunComesTo-no_replies asked answer old new blob holds fails others = by_name ask
         inr (inl (record { blob = blob; blob_held = holds.held; fits = holds.len; name = name; is_name = is; failed = record { later = fails.later; cause = fails.cause; others = others } }))
     by_answer name is answers.Memory fails = inl (unchanged old new others fails)
 
-    by_name : (o : Option (List ℕ)) → asked.replies ≡ o → FailsToReadReplies old.files o old.reads new.reads answer → RunComesTo asked answer old new
+    by_name : (o : Option (List ℕ)) → asked.settings.replies ≡ o → FailsToReadReplies old.files o old.reads new.reads answer → RunComesTo asked answer old new
     by_name None is fails = absurd fails
     by_name (Some name) is fails = by_answer name is answer fails
 

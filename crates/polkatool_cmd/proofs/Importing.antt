@@ -8,7 +8,7 @@ use Rattle.faults.proofs.Firsts.{first_below-more}
 use Rattle.symbols.specs.Parts.{same}
 use Rattle.symbols.specs.Wanted.{Import, Wanted, name_of, import_name_at, import_of}
 use Rattle.polkatool_cmd.specs.Items.{Item}
-use Rattle.polkatool_cmd.specs.LinkWords.{is_link, imports, repeats_import}
+use Rattle.polkatool_cmd.specs.LinkWords.{name_objects, imports, repeats_import}
 
 and_right : (a b : Bool) → (a && b) ≡ true → b ≡ true
 and_right true b e = e
@@ -27,8 +27,8 @@ not_true true e = sym e
 not_true false e = refl
 
 -- no name is imported twice
-pub repeats_import-link : (found : List Item) → IsTrue (is_link found) → repeats_import (imports found) ≡ false
-repeats_import-link found link = not_true _ (and_right _ _ link)
+pub repeats_import-named : (found : List Item) → IsTrue (name_objects found) → repeats_import (imports found) ≡ false
+repeats_import-named found named = not_true _ (and_right _ _ named)
 
 test_none : (test : Import → Bool) (earlier : List Import) (import : Import) (rest : List Import) → list_any test (earlier ++ import ∷ rest) ≡ false → test import ≡ false
 test_none test [] import rest none = or_left (test import) _ none

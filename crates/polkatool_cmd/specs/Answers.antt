@@ -43,21 +43,21 @@ pub record HoldsRun (files : Option Files) (asked : RunCommand) (run : Paid Even
   pub blob : List ℕ
   pub blob_held : Holds files asked.blob blob
   pub file : List ℕ
-  pub file_held : HoldsReplies files asked.replies file
-  pub no_fault : first_run_fault asked.entry asked.argument blob file ≡ None
+  pub file_held : HoldsReplies files asked.settings.replies file
+  pub no_fault : first_run_fault asked.settings.entry asked.settings.argument blob file ≡ None
   pub container : Container
   pub is_container : container_of blob ≡ Ok container
   pub replies : List Reply
   pub are_replies : replies_of file ≡ Ok replies
-  pub run_is : run ≡ machine_run replying (start_host replies) container asked.entry asked.argument asked.gas
+  pub run_is : run ≡ machine_run replying (start_host replies) container asked.settings.entry asked.settings.argument asked.settings.gas
 
 -- The files of a run have this first fault. The file of replies is read where the blob's file isn't too large.
 pub record HasRunFault (files : Option Files) (asked : RunCommand) (fault : Fault) : Type 0 where
   pub blob : List ℕ
   pub blob_held : Holds files asked.blob blob
   pub file : List ℕ
-  pub file_held : length blob ≤ 2 ^ 27 → HoldsReplies files asked.replies file
-  pub first : first_run_fault asked.entry asked.argument blob file ≡ Some fault
+  pub file_held : length blob ≤ 2 ^ 27 → HoldsReplies files asked.settings.replies file
+  pub first : first_run_fault asked.settings.entry asked.settings.argument blob file ≡ Some fault
 
 -- The run ended with this status, and its transcript was put; all else is as before.
 pub record HasRun (asked : RunCommand) (status : Status) (old new : Snapshot) : Type 0 where
@@ -74,7 +74,7 @@ pub record FailedReplies (asked : RunCommand) (old new : Snapshot) : Type 0 wher
   pub blob_held : Holds old.files asked.blob blob
   pub fits : length blob ≤ 2 ^ 27
   pub name : List ℕ
-  pub is_name : asked.replies ≡ Some name
+  pub is_name : asked.settings.replies ≡ Some name
   pub failed : FailedRead name old new
 
 -- A put of the run's transcript failed after a prefix of it; all else is as before.

@@ -7,6 +7,8 @@ pub mod LinkRead
 pub mod LinkAnswers
 pub mod Linking
 pub mod RunWords
+pub mod ExecWords
+pub mod ExecRead
 pub mod RunRead
 pub mod Commands
 pub mod FaultNames

@@ -5,7 +5,7 @@ use Rattle.outside.specs.Outside.{Files, Rose, AppendsFront}
 use Rattle.elf_objects.specs.declared.fault.Fault.{Fault}
 use Rattle.link_core.specs.Linked.{Linked, HoldsLinked}
 use Rattle.link_core.specs.Faults.{input_of, HasNoFault, HasFirstFault}
-use Rattle.polkatool_cmd.specs.LinkWords.{LinkCommand}
+use Rattle.polkatool_cmd.specs.LinkWords.{LinkCommand, LinkInput}
 use Rattle.polkatool_cmd.specs.Faults.{first_too_large}
 use Rattle.polkatool_cmd.specs.Snapshot.{Snapshot, Holds, FailedRead}
 use Rattle.polkatool_cmd.specs.declared.answer.Answer.{Answer}
@@ -18,58 +18,58 @@ HoldFiles told [] (file ∷ files) = ⊥
 HoldFiles told (name ∷ names) (file ∷ files) = Holds told name file × HoldFiles told names files
 
 -- the files of a link's objects are these, and none of them is too large
-pub record HasObjects (told : Option Files) (link : LinkCommand) (files : List (List ℕ)) : Type 0 where
-  pub all : length files ≡ length link.objects
-  pub held : HoldFiles told link.objects files
+pub record HasObjects (told : Option Files) (input : LinkInput) (files : List (List ℕ)) : Type 0 where
+  pub all : length files ≡ length input.objects
+  pub held : HoldFiles told input.objects files
   pub fit : first_too_large files ≡ None
 
 -- The objects of which the names held the files have no fault, and this is their linked program.
-pub record LinksFiles (told : Option Files) (link : LinkCommand) (linked : Linked) : Type 0 where
+pub record LinksFiles (told : Option Files) (input : LinkInput) (linked : Linked) : Type 0 where
   pub files : List (List ℕ)
-  pub objects : HasObjects told link files
-  pub no_fault : HasNoFault files link.wanted
-  pub holds : HoldsLinked (input_of files link.wanted) linked
+  pub objects : HasObjects told input files
+  pub no_fault : HasNoFault files input.wanted
+  pub holds : HoldsLinked (input_of files input.wanted) linked
 
 -- The linked program's container was written and its map put; all else is as before.
 pub record HasLinked (link : LinkCommand) (old new : Snapshot) : Type 0 where
   pub linked : Linked
-  pub links : LinksFiles old.files link linked
+  pub links : LinksFiles old.files link.input linked
   pub written : Holds new.files link.output linked.container
   pub map : Appends old.out new.out linked.text
   pub others : new ≡ record old { files = new.files; out = new.out }
 
 -- A file is too large, and those before it aren't: this is its fault.
-pub record HasLargeFile (told : Option Files) (link : LinkCommand) (fault : Fault) : Type 0 where
+pub record HasLargeFile (told : Option Files) (input : LinkInput) (fault : Fault) : Type 0 where
   pub files : List (List ℕ)
-  pub held : HoldFiles told link.objects files
+  pub held : HoldFiles told input.objects files
   pub first : first_too_large files ≡ Some fault
 
 -- No file is too large, and this is the first fault of the objects.
-pub record HasObjectFault (told : Option Files) (link : LinkCommand) (fault : Fault) : Type 0 where
+pub record HasObjectFault (told : Option Files) (input : LinkInput) (fault : Fault) : Type 0 where
   pub files : List (List ℕ)
-  pub objects : HasObjects told link files
-  pub first : HasFirstFault files link.wanted fault
+  pub objects : HasObjects told input files
+  pub first : HasFirstFault files input.wanted fault
 
 -- A file is missing or its read failed, and those before it were read and aren't too large; all else is as before.
-pub record FailedObject (link : LinkCommand) (old new : Snapshot) : Type 0 where
+pub record FailedObject (input : LinkInput) (old new : Snapshot) : Type 0 where
   pub files : List (List ℕ)
-  pub held : HoldFiles old.files link.objects files
+  pub held : HoldFiles old.files input.objects files
   pub fit : first_too_large files ≡ None
   pub name : List ℕ
-  pub next : slice_get link.objects (length files) ≡ Some name
+  pub next : slice_get input.objects (length files) ≡ Some name
   pub failed : FailedRead name old new
 
 -- The objects were linked, and the write of the output failed; all else is as before.
 pub record FailedWrite (link : LinkCommand) (old new : Snapshot) : Type 0 where
   pub linked : Linked
-  pub links : LinksFiles old.files link linked
+  pub links : LinksFiles old.files link.input linked
   pub cause : Rose old.writes new.writes
   pub others : new ≡ record old { files = new.files; writes = new.writes }
 
 -- The output was written, and the put of the map failed after a front of it; all else is as before.
 pub record FailedPut (link : LinkCommand) (old new : Snapshot) : Type 0 where
   pub linked : Linked
-  pub links : LinksFiles old.files link linked
+  pub links : LinksFiles old.files link.input linked
   pub written : Holds new.files link.output linked.container
   pub map : AppendsFront old.out new.out linked.text
   pub cause : Rose old.puts new.puts
@@ -81,7 +81,7 @@ pub record FailedPut (link : LinkCommand) (old new : Snapshot) : Type 0 where
 abbrev pub LinkComesTo : LinkCommand → Answer → Snapshot → Snapshot → Type 0
 LinkComesTo link answers.Done old new = HasLinked link old new
 LinkComesTo link (answers.Refused fault) old new =
-    (HasLargeFile old.files link fault ⊎ HasObjectFault old.files link fault) × (new ≡ old)
+    (HasLargeFile old.files link.input fault ⊎ HasObjectFault old.files link.input fault) × (new ≡ old)
 LinkComesTo link answers.Panicked old new = ⊥
 LinkComesTo link answers.Faulted old new = ⊥
 LinkComesTo link answers.OutOfGas old new = ⊥
@@ -89,5 +89,5 @@ LinkComesTo link answers.Unanswered old new = ⊥
 LinkComesTo link answers.BadReply old new = ⊥
 LinkComesTo link answers.Usage old new = ⊥
 LinkComesTo link answers.FileFault old new =
-    FailedObject link old new ⊎ (FailedWrite link old new ⊎ FailedPut link old new)
+    FailedObject link.input old new ⊎ (FailedWrite link old new ⊎ FailedPut link old new)
 LinkComesTo link answers.Memory old new = new ≡ old

@@ -45,11 +45,14 @@ import_in item = option_and_then import_in_value (value_in (codes "-i") item)
 abbrev pub stack_in : Item → Option ℕ
 stack_in item = option_and_then (number_below (2 ^ 24)) (value_in (codes "--stack") item)
 
--- whether an item is one of these
+-- whether an item is an entry, an import, a stack or an object
+abbrev pub is_of_objects : Item → Bool
+is_of_objects item =
+    is_some (entry_in item) || is_some (import_in item) || is_some (stack_in item) || is_some (file_in item)
+
+-- whether an item is one of these, or an output
 abbrev pub is_of_link : Item → Bool
-is_of_link item =
-    is_some (output_in item) || is_some (entry_in item) || is_some (import_in item) || is_some (stack_in item)
-    || is_some (file_in item)
+is_of_link item = is_some (output_in item) || is_of_objects item
 
 -- whether a name is imported
 abbrev pub is_imported : List ℕ → List Import → Bool
@@ -76,18 +79,20 @@ stacks = filter_map stack_in
 abbrev pub objects : List Item → List (List ℕ)
 objects = filter_map file_in
 
--- Whether items are a link: each is of a link; one names the output, and at most one the stack; 1 to 1,024 name objects;
--- at most 1,000 name entries, and at most 1,000 imports, of which no two have one name.
-abbrev pub is_link : List Item → Bool
-is_link found =
-    list_all is_of_link found
-    && (length (outputs found) == 1)
-    && nat_le (length (stacks found)) 1
+-- Whether items can be what is linked: at most one names the stack; 1 to 1,024 name objects; at most 1,000 name entries, and
+-- at most 1,000 imports, of which no two have one name.
+abbrev pub name_objects : List Item → Bool
+name_objects found =
+    nat_le (length (stacks found)) 1
     && nat_le 1 (length (objects found))
     && nat_le (length (objects found)) 1024
     && nat_le (length (entries found)) 1000
     && nat_le (length (imports found)) 1000
     && not (repeats_import (imports found))
+
+-- whether items are a link: each is of a link, one names the output, and they can be what is linked
+abbrev pub is_link : List Item → Bool
+is_link found = list_all is_of_link found && (length (outputs found) == 1) && name_objects found
 
 -- the entries of a link: `main` alone where none is named
 abbrev pub or_main : List (List ℕ) → List (List ℕ)
@@ -98,25 +103,36 @@ or_main (name ∷ names) = name ∷ names
 abbrev pub default_stack : ℕ
 default_stack = 65536
 
--- A link with its values: the name of the output's file, those of the objects' files in order, and what is wanted of them.
-pub record LinkCommand : Type 0 where
-  pub output : List ℕ
+-- What is linked: the names of the objects' files in order, and what is wanted of them.
+pub record LinkInput : Type 0 where
   pub objects : List (List ℕ)
   pub wanted : Wanted
 
--- the link of items, with an output and a stack
-abbrev pub link_with : List Item → List ℕ → ℕ → LinkCommand
-link_with found output stack = record {
-  output = output;
+-- what items with a stack name
+abbrev pub input_with : List Item → ℕ → LinkInput
+input_with found stack = record {
   objects = objects found;
   wanted = record { entries = or_main (entries found); imports = imports found; stack = stack };
 }
+
+-- the stack of items
+abbrev pub stack_of : List Item → ℕ
+stack_of found = unwrap_or (slice_get (stacks found) 0) default_stack
+
+-- A link with its values: the name of the output's file, and what is linked.
+pub record LinkCommand : Type 0 where
+  pub output : List ℕ
+  pub input : LinkInput
+
+-- the link of items, with an output
+abbrev pub link_with : List Item → List ℕ → ℕ → LinkCommand
+link_with found output stack = record { output = output; input = input_with found stack }
 
 -- the link that items are
 abbrev pub link_from : List Item → Option LinkCommand
 link_from found =
     if is_link found then
-    option_map (λ output. link_with found output (unwrap_or (slice_get (stacks found) 0) default_stack))
+    option_map (λ output. link_with found output (stack_of found))
     (slice_get (outputs found) 0)
     else None
 

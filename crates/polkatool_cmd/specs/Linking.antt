@@ -2,7 +2,7 @@
 use Rattle.std.specs.Prelude.{◌≡◌, ◌≤◌, ◌<◌, ◌⊎◌, ℕ, List, length, Option, Some, None, slice_get}
 use Rattle.outside.specs.Outside.{Files, Rose, Missing}
 use Rattle.elf_objects.specs.declared.fault.Fault.{Fault}
-use Rattle.polkatool_cmd.specs.LinkWords.{LinkCommand}
+use Rattle.polkatool_cmd.specs.LinkWords.{LinkInput}
 use Rattle.polkatool_cmd.specs.Faults.{limit_of, file_too_large, first_too_large}
 use Rattle.polkatool_cmd.specs.Snapshot.{Holds}
 use Rattle.polkatool_cmd.specs.LinkAnswers.{HoldFiles, HasLargeFile, HasObjectFault}
@@ -57,9 +57,9 @@ FailsToReadAll told names before now answers.Memory = now ≡ before
 FailsToReadAll told names before now answer = ⊥
 
 -- why objects aren't linked: by their files, or by a fault of theirs
-abbrev pub LinksOrFails : Option Files → LinkCommand → ℕ → ℕ → Answer → Type 0
-LinksOrFails told link before now (answers.Refused fault) =
-    (HasLargeFile told link fault ⊎ HasObjectFault told link fault) × (now ≡ before)
-LinksOrFails told link before now answers.FileFault = HasFailed told link.objects before now
-LinksOrFails told link before now answers.Memory = now ≡ before
-LinksOrFails told link before now answer = ⊥
+abbrev pub LinksOrFails : Option Files → LinkInput → ℕ → ℕ → Answer → Type 0
+LinksOrFails told input before now (answers.Refused fault) =
+    (HasLargeFile told input fault ⊎ HasObjectFault told input fault) × (now ≡ before)
+LinksOrFails told input before now answers.FileFault = HasFailed told input.objects before now
+LinksOrFails told input before now answers.Memory = now ≡ before
+LinksOrFails told input before now answer = ⊥

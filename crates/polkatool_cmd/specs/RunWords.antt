@@ -20,11 +20,14 @@ argument_in item = option_and_then argument_of (value_in (codes "--arg") item)
 abbrev pub replies_in : Item → Option (List ℕ)
 replies_in item = option_and_then file_value_of (value_in (codes "--replies") item)
 
+-- whether an item is one of these
+abbrev pub is_setting : Item → Bool
+is_setting item =
+    is_some (run_entry_in item) || is_some (gas_in item) || is_some (argument_in item) || is_some (replies_in item)
+
 -- whether an item is one of these, or names a file
 abbrev pub is_of_run : Item → Bool
-is_of_run item =
-    is_some (run_entry_in item) || is_some (gas_in item) || is_some (argument_in item)
-    || is_some (replies_in item) || is_some (file_in item)
+is_of_run item = is_setting item || is_some (file_in item)
 
 -- the entries, amounts of gas, arguments, files of replies and blobs that items name, each in their order
 abbrev pub run_entries : List Item → List ℕ
@@ -42,15 +45,17 @@ reply_files = filter_map replies_in
 abbrev pub blobs : List Item → List (List ℕ)
 blobs = filter_map file_in
 
--- Whether items are a run: each is of a run, one names the blob, no option repeats.
-abbrev pub is_run : List Item → Bool
-is_run found =
-    list_all is_of_run found
-    && (length (blobs found) == 1)
-    && nat_le (length (run_entries found)) 1
+-- whether items name no setting of a run twice
+abbrev pub are_settings : List Item → Bool
+are_settings found =
+    nat_le (length (run_entries found)) 1
     && nat_le (length (gas_amounts found)) 1
     && nat_le (length (arguments found)) 1
     && nat_le (length (reply_files found)) 1
+
+-- whether items are a run: each is of a run, one names the blob, and no setting is named twice
+abbrev pub is_run : List Item → Bool
+is_run found = list_all is_of_run found && (length (blobs found) == 1) && are_settings found
 
 -- the entry, the gas and the argument of a run by default
 abbrev pub default_entry : ℕ
@@ -62,23 +67,30 @@ default_gas = 10000000
 abbrev pub default_argument : List ℕ
 default_argument = []
 
--- A run: of the blob in a file, from an entry, with gas, an argument and a file of replies, if one is named.
-pub record RunCommand : Type 0 where
+-- How a program is run: from an entry, with gas, an argument and a file of replies, if one is named.
+pub record Settings : Type 0 where
   pub entry : ℕ
   pub gas : ℕ
   pub argument : List ℕ
   pub replies : Option (List ℕ)
-  pub blob : List ℕ
 
--- the run of items, with a blob
-abbrev pub run_command_with : List Item → List ℕ → RunCommand
-run_command_with found blob = record {
+-- the settings that items name
+abbrev pub settings_of : List Item → Settings
+settings_of found = record {
   entry = unwrap_or (slice_get (run_entries found) 0) default_entry;
   gas = unwrap_or (slice_get (gas_amounts found) 0) default_gas;
   argument = unwrap_or (slice_get (arguments found) 0) default_argument;
   replies = slice_get (reply_files found) 0;
-  blob = blob;
 }
+
+-- A run: of the blob in a file, with these settings.
+pub record RunCommand : Type 0 where
+  pub settings : Settings
+  pub blob : List ℕ
+
+-- the run of items, with a blob
+abbrev pub run_command_with : List Item → List ℕ → RunCommand
+run_command_with found blob = record { settings = settings_of found; blob = blob }
 
 -- the run that items are
 abbrev pub run_command_from : List Item → Option RunCommand

@@ -10,7 +10,7 @@ use Rattle.pvm_machine.specs.Machine.{Machine}
 use Rattle.pvm_machine.specs.Started.{started}
 use Rattle.transcript.specs.Lines.{transcript}
 use Rattle.transcript.specs.Telling.{IsCutOff, IsStopped}
-use Rattle.polkatool_cmd.specs.RunWords.{RunCommand}
+use Rattle.polkatool_cmd.specs.RunWords.{Settings}
 use Rattle.polkatool_cmd.specs.RunFaults.{first_start_fault}
 use Rattle.polkatool_cmd.specs.Linking.{FailsToReadOne}
 use Rattle.polkatool_cmd.specs.Statuses.{status_of}
@@ -38,14 +38,14 @@ FailsToReadReplies files None before now answer = ⊥
 FailsToReadReplies files (Some name) before now answer = FailsToReadOne files name 1 (2 ^ 20) before now answer
 
 -- the file is a container without a fault, and the machine is at the start that is asked for
-pub record Starts (file : List ℕ) (asked : RunCommand) (m : Machine) : Type 0 where
+pub record Starts (file : List ℕ) (asked : Settings) (m : Machine) : Type 0 where
   pub container : Container
   pub no_fault : first_start_fault asked.entry asked.argument file ≡ None
   pub is_container : container_of file ≡ Ok container
   pub machine_is : m ≡ started container asked.entry asked.argument asked.gas
 
 -- a program is not run because of the first fault of its file; an allocation may fail at any time
-abbrev pub FailsToStart : List ℕ → RunCommand → RunFault → Type 0
+abbrev pub FailsToStart : List ℕ → Settings → RunFault → Type 0
 FailsToStart file asked (Bad fault) = first_start_fault asked.entry asked.argument file ≡ Some fault
 FailsToStart file asked NoMemory = Unit {0}
 

@@ -1,5 +1,5 @@
 use crate::argument::Argument;
-use crate::link_command::LinkCommand;
+use crate::link_input::LinkInput;
 
 /// A command with its values.
 #[derive(Clone, Copy)]
@@ -12,13 +12,32 @@ pub(crate) enum Command<'a> {
     Disassemble(&'a str),
 }
 
-/// The run of a program from an entry with the given gas and an argument, by the names of its file and of that of the
-/// replies, if there is one.
+/// A link: what is linked, and the name of the output's file.
+#[derive(Clone, Copy)]
+pub(crate) struct LinkCommand<'a> {
+    pub input: LinkInput<'a>,
+    pub output: &'a str,
+}
+
+/// The run of a program, by the name of its file.
 #[derive(Clone, Copy)]
 pub(crate) struct RunCommand<'a> {
+    pub settings: Settings<'a>,
+    pub blob: &'a str,
+}
+
+/// A link and a run of the linked program: what is linked, and how the program is run.
+#[derive(Clone, Copy)]
+pub(crate) struct ExecCommand<'a> {
+    pub input: LinkInput<'a>,
+    pub settings: Settings<'a>,
+}
+
+/// How a program is run: from an entry, with gas, an argument and the name of a file of replies, if there is one.
+#[derive(Clone, Copy)]
+pub(crate) struct Settings<'a> {
     pub entry: u32,
     pub gas: u64,
     pub argument: Argument<'a>,
     pub replies: Option<&'a str>,
-    pub blob: &'a str,
 }

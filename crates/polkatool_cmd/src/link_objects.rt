@@ -3,7 +3,7 @@
 ghost use Rattle.std.specs.Prelude.{◌≡◌, ◌≤◌, length, map, Some, OnOk, MatchResult};
 ghost use Rattle.outside.specs.Outside.{KeepsOthers};
 ghost use Rattle.polkatool_cmd.specs.Commands.{Link};
-ghost use Rattle.polkatool_cmd.specs.LinkRead.{link_in};
+ghost use Rattle.polkatool_cmd.specs.LinkRead.{input_in, link_in};
 ghost use Rattle.polkatool_cmd.specs.Faults.{file_too_large, limit_of};
 ghost use Rattle.polkatool_cmd.specs.Snapshot.{Holds};
 ghost use Rattle.polkatool_cmd.specs.Answers.{ComesTo};
@@ -12,7 +12,8 @@ ghost use Rattle.polkatool_cmd.specs.Linking.{HasRead, FailsToReadOne, FailsToRe
 
 use crate::answer::Answer;
 use crate::fault_codes::FILE_TOO_LARGE;
-use crate::link_command::LinkCommand;
+use crate::commands::LinkCommand;
+use crate::link_input::LinkInput;
 use elf_objects::Fault;
 use link_core::{Bundle, LinkFault, Linked};
 use outside::{Bytes, Folder, ReadFault, Sink};
@@ -48,7 +49,7 @@ pub(crate) fn link<F: Folder, O: Sink>(
         }) }
     ensures others { KeepsOthers command.now.output.now (F.files files.old) (F.files files.new) }
 {
-    let linked = match link_files(alloc, command, files) {
+    let linked = match link_files(alloc, &command.input, files) {
         Ok(linked) => linked,
         Err(answer) => return answer,
     };
@@ -67,20 +68,20 @@ pub(crate) fn link<F: Folder, O: Sink>(
 /// The answer of the command.
 fn link_files<F: Folder>(
     alloc: Global,
-    command: &LinkCommand<'_>,
+    input: &LinkInput<'_>,
     files: &mut F,
 ) -> Result<Linked, Answer>
     ensures links { MatchResult result
-        (LinksFiles (F.files files.old) (link_in command.now))
-        (LinksOrFails (F.files files.old) (link_in command.now) (F.read_faults files.old) (F.read_faults files.new)) }
+        (LinksFiles (F.files files.old) (input_in input.now))
+        (LinksOrFails (F.files files.old) (input_in input.now) (F.read_faults files.old) (F.read_faults files.new)) }
     ensures reads { OnOk result (F.read_faults files.new ≡ F.read_faults files.old) }
     ensures files { F.files files.new ≡ F.files files.old }
     ensures writes { F.write_faults files.new ≡ F.write_faults files.old }
 {
-    let Ok(names) = command.objects(alloc) else {
+    let Ok(names) = input.objects(alloc) else {
         return Err(Answer::Memory);
     };
-    let Ok(wanted) = command.wanted(alloc) else {
+    let Ok(wanted) = input.wanted(alloc) else {
         return Err(Answer::Memory);
     };
     let bundle = read_files(alloc, &names, files)?;

@@ -1,19 +1,20 @@
 //! The words of a link: its options and the names of its objects, in any order.
 
-ghost use Rattle.std.specs.Prelude.{◌≡◌, ◌^◌, ◌<◌, Some, None, IfSome, if◌then◌else◌};
+ghost use Rattle.std.specs.Prelude.{◌≡◌, ◌^◌, ◌<◌, IfSome, IsTrue, length};
 ghost use Rattle.std.specs.Prelude.{option_map, option_copied, slice_get};
 ghost use Rattle.std.specs.List.{before_last, after_last, list_all};
 ghost use Rattle.symbols.specs.Wanted.{IsHostNumber};
 ghost use Rattle.polkatool_cmd.specs.LinkWords.{wanted_name, kind_in_value, import_in_value, is_equals_sign};
-ghost use Rattle.polkatool_cmd.specs.LinkWords.{output_in, entry_in, import_in, stack_in, is_of_link};
-ghost use Rattle.polkatool_cmd.specs.LinkWords.{outputs, entries, imports, stacks, objects, is_imported, repeats_import, is_link};
+ghost use Rattle.polkatool_cmd.specs.LinkWords.{output_in, entry_in, import_in, stack_in, is_of_link, is_of_objects};
+ghost use Rattle.polkatool_cmd.specs.LinkWords.{outputs, entries, imports, stacks, objects, is_imported, repeats_import, name_objects, is_link, input_with, stack_of};
 ghost use Rattle.polkatool_cmd.specs.LinkWords.{link_command_of};
-ghost use Rattle.polkatool_cmd.specs.LinkRead.{read_import, counts_of, link_in};
+ghost use Rattle.polkatool_cmd.specs.LinkRead.{read_import, counts_of, input_in, link_in};
 ghost use Rattle.polkatool_cmd.specs.Items.{items};
 ghost use Rattle.polkatool_cmd.specs.ItemRead.{item_of};
 
 use crate::items::{Item, count_with, first_item};
-use crate::link_command::LinkCommand;
+use crate::commands::LinkCommand;
+use crate::link_input::LinkInput;
 use crate::values::{name, number_below};
 use outside::Bytes;
 use symbols::ImportKind;
@@ -37,10 +38,9 @@ pub(crate) struct Import<'a> {
     pub kind: ImportKind,
 }
 
-/// How many items of each kind there are.
+/// How many entries, imports, stacks and objects there are.
 #[derive(Clone, Copy)]
 pub(crate) struct Counts {
-    pub outputs: usize,
     pub entries: usize,
     pub imports: usize,
     pub stacks: usize,
@@ -55,9 +55,8 @@ pub(crate) fn link_command(words: &[Bytes]) -> Option<LinkCommand<'_>>
         return None;
     }
     Some(LinkCommand {
-        words,
+        input: link_input(words),
         output: first_output(words)?,
-        stack: first_stack(words).unwrap_or(DEFAULT_STACK),
     })
 }
 
@@ -65,11 +64,43 @@ pub(crate) fn link_command(words: &[Bytes]) -> Option<LinkCommand<'_>>
 fn is_link(words: &[Bytes]) -> bool
     ensures { result ≡ is_link (items words.now) }
 {
-    let Some(counts) = item_counts(words) else {
-        return false;
-    };
-    counts.outputs == 1
-        && counts.stacks <= 1
+    are_of_link(words) && count_outputs(words) == 1 && name_objects(words)
+}
+
+/// Whether all items of words are of a link.
+fn are_of_link(words: &[Bytes]) -> bool
+    ensures { result ≡ list_all is_of_link (items words.now) }
+{
+    let mut rest = words;
+    while let Some((item, behind)) = first_item(rest) {
+        if !item.is_of_link() {
+            return false;
+        }
+        rest = behind;
+    }
+    true
+}
+
+/// How many outputs words name.
+#[tactic(auto, using(crate::proofs::ItemsLemmas::kind_within))]
+fn count_outputs(words: &[Bytes]) -> usize
+    ensures { result ≡ length (outputs (items words.now)) }
+{
+    let mut count = 0;
+    let mut rest = words;
+    while let Some((item, behind)) = first_item(rest) {
+        count = count_with(count, item.output().is_some());
+        rest = behind;
+    }
+    count
+}
+
+/// Whether words can be what is linked.
+pub(crate) fn name_objects(words: &[Bytes]) -> bool
+    ensures { result ≡ name_objects (items words.now) }
+{
+    let counts = object_counts(words);
+    counts.stacks <= 1
         && counts.objects >= 1
         && counts.objects <= MAX_OBJECTS
         && counts.entries <= MAX_ENTRIES
@@ -77,13 +108,12 @@ fn is_link(words: &[Bytes]) -> bool
         && !repeats_import(words)
 }
 
-/// How many items of each kind words have. None where one is not of a link.
+/// How many items of each kind words have.
 #[tactic(auto, using(crate::proofs::ItemsLemmas::kind_within))]
-fn item_counts(words: &[Bytes]) -> Option<Counts>
-    ensures { result ≡ (if list_all is_of_link (items words.now) then Some (counts_of (items words.now)) else None) }
+fn object_counts(words: &[Bytes]) -> Counts
+    ensures { result ≡ counts_of (items words.now) }
 {
     let mut counts = Counts {
-        outputs: 0,
         entries: 0,
         imports: 0,
         stacks: 0,
@@ -91,17 +121,24 @@ fn item_counts(words: &[Bytes]) -> Option<Counts>
     };
     let mut rest = words;
     while let Some((item, behind)) = first_item(rest) {
-        if !item.is_of_link() {
-            return None;
-        }
-        counts.outputs = count_with(counts.outputs, item.output().is_some());
         counts.entries = count_with(counts.entries, item.entry().is_some());
         counts.imports = count_with(counts.imports, item.import().is_some());
         counts.stacks = count_with(counts.stacks, item.stack().is_some());
         counts.objects = count_with(counts.objects, item.file().is_some());
         rest = behind;
     }
-    Some(counts)
+    counts
+}
+
+/// What words name that is linked.
+pub(crate) fn link_input(words: &[Bytes]) -> LinkInput<'_>
+    requires { IsTrue (name_objects (items words.now)) }
+    ensures { input_in result ≡ input_with (items words.now) (stack_of (items words.now)) }
+{
+    LinkInput {
+        words,
+        stack: first_stack(words).unwrap_or(DEFAULT_STACK),
+    }
 }
 
 /// The name of the first output.
@@ -170,8 +207,14 @@ impl<'a> Item<'a> {
     fn is_of_link(&self) -> bool
         ensures { result ≡ is_of_link (item_of self.now) }
     {
-        self.output().is_some()
-            || self.entry().is_some()
+        self.output().is_some() || self.is_of_objects()
+    }
+
+    /// Whether the item is an entry, an import, a stack or an object.
+    pub(crate) fn is_of_objects(&self) -> bool
+        ensures { result ≡ is_of_objects (item_of self.now) }
+    {
+        self.entry().is_some()
             || self.import().is_some()
             || self.stack().is_some()
             || self.file().is_some()

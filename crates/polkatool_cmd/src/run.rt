@@ -6,7 +6,7 @@ ghost use Rattle.pvm_machine.specs.Ran.{run_with};
 ghost use Rattle.transcript.specs.Ends.{end_of};
 ghost use Rattle.transcript.specs.Hosts.{replying, start_host};
 ghost use Rattle.polkatool_cmd.specs.Commands.{Run};
-ghost use Rattle.polkatool_cmd.specs.RunRead.{run_in};
+ghost use Rattle.polkatool_cmd.specs.RunRead.{run_in, settings_in};
 ghost use Rattle.polkatool_cmd.specs.RunFaults.{bad_reply_line as bad_reply_line_of};
 ghost use Rattle.polkatool_cmd.specs.Statuses.{status_of};
 ghost use Rattle.polkatool_cmd.specs.Answers.{ComesTo};
@@ -14,7 +14,7 @@ ghost use Rattle.polkatool_cmd.specs.Running.{HasReplies, FailsToReadReplies, St
 
 use crate::answer::Answer;
 use crate::blob::{blob_fault, blob_fault_at, read_blob};
-use crate::commands::RunCommand;
+use crate::commands::{RunCommand, Settings};
 use crate::fault_codes::{ARGUMENT_TOO_LARGE, BAD_ENTRY, BAD_REPLY_LINE};
 use crate::link_objects::read_file;
 use crate::run_fault::{RunFault, unbuilt_form};
@@ -56,7 +56,7 @@ pub(crate) fn run<F: Folder, O: Sink>(
         Ok(file) => file,
         Err(answer) => return answer,
     };
-    let lines = match read_replies(alloc, command.replies, files) {
+    let lines = match read_replies(alloc, command.settings.replies, files) {
         Ok(lines) => lines,
         Err(answer) => return answer,
     };
@@ -65,7 +65,7 @@ pub(crate) fn run<F: Folder, O: Sink>(
         Err(ReplyFault::BadLine(line)) => return Answer::Refused(bad_reply_line(line)),
         Err(ReplyFault::Memory) => return Answer::Memory,
     };
-    match start(alloc, file.as_slice(), command) {
+    match start(alloc, file.as_slice(), &command.settings) {
         Ok(mut machine) => finish(&mut machine, &replies, out),
         Err(RunFault::Bad(fault)) => Answer::Refused(fault),
         Err(RunFault::Memory) => Answer::Memory,
@@ -101,25 +101,25 @@ fn bad_reply_line(line: u32) -> Fault
     blob_fault_at(BAD_REPLY_LINE, u64::from(line))
 }
 
-/// The machine that a command asks for, of the container that a file is.
+/// The machine at the start that settings ask for, of the container that a file is.
 fn start<'a>(
     alloc: Global,
     file: &'a [u8],
-    command: &RunCommand<'_>,
+    settings: &Settings<'_>,
 ) -> Result<Machine<'a>, RunFault>
-    ensures { MatchResult result (Starts file.now (run_in command.now)) (FailsToStart file.now (run_in command.now)) }
+    ensures { MatchResult result (Starts file.now (settings_in settings.now)) (FailsToStart file.now (settings_in settings.now)) }
 {
     let container = Container::read(file)?;
     if let Some(fault) = unbuilt_form(&container) {
         return Err(RunFault::Bad(fault));
     }
-    let argument = command.argument.bytes(alloc)?;
+    let argument = settings.argument.bytes(alloc)?;
     match Machine::start(
         alloc,
         &container,
-        command.entry,
+        settings.entry,
         argument.as_slice(),
-        command.gas,
+        settings.gas,
     ) {
         Ok(machine) => Ok(machine),
         Err(StartFault::ArgumentTooLarge) => Err(RunFault::Bad(blob_fault(ARGUMENT_TOO_LARGE))),

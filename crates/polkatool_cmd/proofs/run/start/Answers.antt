@@ -1,12 +1,12 @@
 use Rattle.std.proofs.Common.{◌≡◌, sym, ap, ◌∙◌}
 use Rattle.pvm_machine.specs.Started.{started}
-use Rattle.polkatool_cmd.specs.RunRead.{run_in}
+use Rattle.polkatool_cmd.specs.RunRead.{settings_in}
 use Rattle.polkatool_cmd.proofs.RunFaults.{first_start_fault-none}
 use Rattle.polkatool_cmd.proofs.run.start.Goals as goal
 
 pub returns-in-Ok : goal.returns-in-Ok
 returns-in-Ok c =
-    let asked = run_in c.args.command.now in
+    let asked = settings_in c.args.settings.now in
     let container = c.in_ok-container.container in
     let bytes : c.as_slice.result.now ≡ asked.argument = c.as_slice.ensures.value ∙ c.in_ok-argument.ensures in
     record {

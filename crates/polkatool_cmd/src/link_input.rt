@@ -1,8 +1,8 @@
-//! A link, as the words ask for it. It lends the words.
+//! What is linked, as the words name it. It borrows the words.
 
 ghost use Rattle.std.specs.Prelude.{◌<◌, ◌^◌, IsTrue};
 ghost use Rattle.polkatool_cmd.specs.Items.{items};
-ghost use Rattle.polkatool_cmd.specs.LinkWords.{is_link};
+ghost use Rattle.polkatool_cmd.specs.LinkWords.{name_objects};
 
 use crate::items::first_item;
 use outside::Bytes;
@@ -12,23 +12,22 @@ use symbols::Wanted;
 /// The entry of a link, where the words name none.
 const DEFAULT_ENTRY: &[u8; 4] = b"main";
 
-/// A link: the words behind the verb, the name of the output's file, and how many bytes the stack has, fewer than 2^24.
+/// What is linked: the words that name it, and how many bytes the stack has, fewer than 2^24.
 #[derive(Clone, Copy)]
-pub(crate) struct LinkCommand<'a> {
+pub(crate) struct LinkInput<'a> {
     pub words: &'a [Bytes],
-    pub output: &'a str,
     pub stack: u32,
-    ghost link: { IsTrue (is_link (items words.now)) },
+    ghost named: { IsTrue (name_objects (items words.now)) },
     ghost small: { stack < 2 ^ 24 },
 }
 
-impl<'a> LinkCommand<'a> {
+impl<'a> LinkInput<'a> {
     ghost use Rattle.std.specs.Prelude.{◌≡◌, ◌≤◌, [], map, vec_len, IfOk, OnOk};
-    ghost use Rattle.polkatool_cmd.specs.LinkRead.{link_in};
+    ghost use Rattle.polkatool_cmd.specs.LinkRead.{input_in};
 
     /// The names of the objects' files, in the order of the words: at least one, and at most 1,024.
     pub(crate) fn objects(&self, alloc: Global) -> Result<Vec<&'a str>, AllocError>
-        ensures names { IfOk result (λ names. map (λ name. name.now) names.items ≡ (link_in self.now).objects) }
+        ensures names { IfOk result (λ names. map (λ name. name.now) names.items ≡ (input_in self.now).objects) }
         ensures count { IfOk result (λ names. (1 ≤ vec_len names) × (vec_len names ≤ 1024)) }
     {
         let mut objects = Vec::new(alloc);
@@ -44,7 +43,7 @@ impl<'a> LinkCommand<'a> {
 
     /// What is wanted of the objects.
     pub(crate) fn wanted(&self, alloc: Global) -> Result<Wanted, AllocError>
-        ensures { IfOk result (λ wanted. wanted ≡ (link_in self.now).wanted) }
+        ensures { IfOk result (λ wanted. wanted ≡ (input_in self.now).wanted) }
     {
         let mut wanted = Wanted::new(alloc, self.stack);
         self.add_entries(&mut wanted)?;
@@ -55,7 +54,7 @@ impl<'a> LinkCommand<'a> {
     /// Adds the entries, `main` where the words name none.
     fn add_entries(&self, wanted: &mut Wanted) -> Result<(), AllocError>
         requires { wanted.old.entries ≡ [] }
-        ensures { OnOk result (wanted.new ≡ record wanted.old { entries = (link_in self.now).wanted.entries }) }
+        ensures { OnOk result (wanted.new ≡ record wanted.old { entries = (input_in self.now).wanted.entries }) }
     {
         let mut rest = self.words;
         while let Some((item, behind)) = first_item(rest) {
@@ -72,7 +71,7 @@ impl<'a> LinkCommand<'a> {
 
     fn add_imports(&self, wanted: &mut Wanted) -> Result<(), AllocError>
         requires { wanted.old.imports ≡ [] }
-        ensures { OnOk result (wanted.new ≡ record wanted.old { imports = (link_in self.now).wanted.imports }) }
+        ensures { OnOk result (wanted.new ≡ record wanted.old { imports = (input_in self.now).wanted.imports }) }
     {
         let mut rest = self.words;
         while let Some((item, behind)) = first_item(rest) {

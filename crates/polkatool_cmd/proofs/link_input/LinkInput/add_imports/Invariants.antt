@@ -1,7 +1,7 @@
 use Rattle.std.proofs.Common.{◌≡◌, ◌++◌, length}
 use Rattle.polkatool_cmd.specs.Items.{items}
 use Rattle.polkatool_cmd.specs.LinkWords.{imports}
-use Rattle.polkatool_cmd.proofs.link_command.LinkCommand.add_imports.Given as goal
+use Rattle.polkatool_cmd.proofs.link_input.LinkInput.add_imports.Given as goal
 
 abbrev pub invariant-loop-item : goal.invariant-loop-item
 invariant-loop-item l = record {
