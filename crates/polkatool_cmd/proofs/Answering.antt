@@ -14,7 +14,9 @@ use Rattle.transcript.specs.declared.run_end.RunEnd.{RunEnd}
 use Rattle.polkatool_cmd.specs.declared.answer.Answer.{Answer}
 use Rattle.polkatool_cmd.specs.declared.answer.Answer.TheVariants as answers
 use Rattle.polkatool_cmd.specs.RunWords.{RunCommand}
-use Rattle.polkatool_cmd.specs.Answers.{HoldsRun, HasRun, RunComesTo}
+use Rattle.polkatool_cmd.specs.ExecWords.{ExecCommand}
+use Rattle.transcript.specs.Telling.{IsStopped}
+use Rattle.polkatool_cmd.specs.Answers.{HoldsRun, HoldsExec, HasRun, StoppedRun, RunComesTo, ExecComesTo}
 use Rattle.polkatool_cmd.specs.Snapshot.{Snapshot, Stream, Holds}
 use Rattle.polkatool_cmd.specs.Running.{IsTold, Tells, EndsAs}
 use Rattle.polkatool_cmd.specs.Statuses.{status_of}
@@ -37,44 +39,69 @@ long-read (Some files) name limit fault is answer =
     subst P is answer
 
 -- a run that ended with a status, and was told
-has_run : (asked : RunCommand) (run : Paid Event End) (status : Status) (old new : Snapshot)
-    → HoldsRun old.files asked run
+has_run : (IsAsked : Paid Event End → Type 0) (run : Paid Event End) (status : Status) (old new : Snapshot)
+    → IsAsked run
     → IsTold run status (record { text = old.out; puts = old.puts }) (record { text = new.out; puts = new.puts })
     → new ≡ record old { out = new.out; puts = new.puts }
-    → HasRun asked status old new
-has_run asked run status old new holds told others = record {
+    → HasRun IsAsked status old new
+has_run IsAsked run status old new asked told others = record {
   run = run;
-  is_run = holds;
+  is_run = asked;
   ended = told.ended;
   told = told.told;
   others = others ∙ ap (λ puts. record old { out = new.out; puts = puts }) told.puts;
 }
 
--- a run whose transcript was told on out, with nothing else changed, is what the run comes to
+has_stopped : (IsAsked : Paid Event End → Type 0) (run : Paid Event End) (m : Machine) (old new : Snapshot)
+    → IsAsked run
+    → IsStopped run m (record { text = old.out; puts = old.puts }) (record { text = new.out; puts = new.puts })
+    → new ≡ record old { out = new.out; puts = new.puts }
+    → StoppedRun IsAsked old new
+has_stopped IsAsked run m old new asked told others = record {
+  run = run;
+  is_run = asked;
+  machine = m;
+  stopped = told;
+  others = others ∙ ap (λ puts. record old { out = new.out; puts = puts }) told.puts;
+}
+
+-- a run whose transcript was told on out, with nothing else changed
 pub RunComesTo-told :
     (asked : RunCommand) (run : Paid Event End) (m : Machine) (answer : Answer) (old new : Snapshot)
     → HoldsRun old.files asked run
     → Tells run m answer (record { text = old.out; puts = old.puts }) (record { text = new.out; puts = new.puts })
     → new ≡ record old { out = new.out; puts = new.puts }
     → RunComesTo asked answer old new
-RunComesTo-told asked run m answers.Done old new holds told others = has_run asked run statuses.Done old new holds told others
-RunComesTo-told asked run m answers.Panicked old new holds told others = has_run asked run statuses.Panicked old new holds told others
-RunComesTo-told asked run m answers.Faulted old new holds told others = has_run asked run statuses.Faulted old new holds told others
-RunComesTo-told asked run m answers.OutOfGas old new holds told others = has_run asked run statuses.OutOfGas old new holds told others
-RunComesTo-told asked run m answers.Unanswered old new holds told others = has_run asked run statuses.Unanswered old new holds told others
-RunComesTo-told asked run m answers.BadReply old new holds told others = has_run asked run statuses.BadReply old new holds told others
+RunComesTo-told asked run m answers.Done old new holds told others = has_run (HoldsRun old.files asked) run statuses.Done old new holds told others
+RunComesTo-told asked run m answers.Panicked old new holds told others = has_run (HoldsRun old.files asked) run statuses.Panicked old new holds told others
+RunComesTo-told asked run m answers.Faulted old new holds told others = has_run (HoldsRun old.files asked) run statuses.Faulted old new holds told others
+RunComesTo-told asked run m answers.OutOfGas old new holds told others = has_run (HoldsRun old.files asked) run statuses.OutOfGas old new holds told others
+RunComesTo-told asked run m answers.Unanswered old new holds told others = has_run (HoldsRun old.files asked) run statuses.Unanswered old new holds told others
+RunComesTo-told asked run m answers.BadReply old new holds told others = has_run (HoldsRun old.files asked) run statuses.BadReply old new holds told others
 RunComesTo-told asked run m (answers.Refused fault) old new holds told others = absurd told
 RunComesTo-told asked run m answers.Usage old new holds told others = absurd told
 RunComesTo-told asked run m answers.FileFault old new holds told others =
     inr (inr (record { run = run; is_run = holds; told = told.told; cause = told.cause; others = others }))
-RunComesTo-told asked run m answers.Memory old new holds told others =
-    inr (record {
-      run = run;
-      is_run = holds;
-      machine = m;
-      stopped = told;
-      others = others ∙ ap (λ puts. record old { out = new.out; puts = puts }) told.puts;
-    })
+RunComesTo-told asked run m answers.Memory old new holds told others = inr (has_stopped (HoldsRun old.files asked) run m old new holds told others)
+
+-- an exec whose transcript was told on out, with nothing else changed
+pub ExecComesTo-told :
+    (asked : ExecCommand) (run : Paid Event End) (m : Machine) (answer : Answer) (old new : Snapshot)
+    → HoldsExec old.files asked run
+    → Tells run m answer (record { text = old.out; puts = old.puts }) (record { text = new.out; puts = new.puts })
+    → new ≡ record old { out = new.out; puts = new.puts }
+    → ExecComesTo asked answer old new
+ExecComesTo-told asked run m answers.Done old new holds told others = has_run (HoldsExec old.files asked) run statuses.Done old new holds told others
+ExecComesTo-told asked run m answers.Panicked old new holds told others = has_run (HoldsExec old.files asked) run statuses.Panicked old new holds told others
+ExecComesTo-told asked run m answers.Faulted old new holds told others = has_run (HoldsExec old.files asked) run statuses.Faulted old new holds told others
+ExecComesTo-told asked run m answers.OutOfGas old new holds told others = has_run (HoldsExec old.files asked) run statuses.OutOfGas old new holds told others
+ExecComesTo-told asked run m answers.Unanswered old new holds told others = has_run (HoldsExec old.files asked) run statuses.Unanswered old new holds told others
+ExecComesTo-told asked run m answers.BadReply old new holds told others = has_run (HoldsExec old.files asked) run statuses.BadReply old new holds told others
+ExecComesTo-told asked run m (answers.Refused fault) old new holds told others = absurd told
+ExecComesTo-told asked run m answers.Usage old new holds told others = absurd told
+ExecComesTo-told asked run m answers.FileFault old new holds told others =
+    inr (inr (record { run = run; is_run = holds; told = told.told; cause = told.cause; others = others }))
+ExecComesTo-told asked run m answers.Memory old new holds told others = inr (has_stopped (HoldsExec old.files asked) run m old new holds told others)
 
 -- a run that was told to its end is told as its answer
 tells_status : (run : Paid Event End) (m : Machine) (end : RunEnd) (status : Status) (old new : Stream) → telling.IsTold run m end old new → status_of (end_of end m.state) ≡ status → IsTold run status old new

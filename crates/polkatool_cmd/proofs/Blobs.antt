@@ -39,7 +39,7 @@ HasFault-long :
 HasFault-long fault_in files name fault is long =
     record { file = long.file; held = long.held; first = first_blob_fault-long fault_in long.file long.len ∙ ap (λ f. Some f) (sym is) }
 
-unchanged : (old new : Snapshot) → new ≡ record old { reads = new.reads } → new.reads ≡ old.reads → new ≡ old
+pub unchanged : (old new : Snapshot) → new ≡ record old { reads = new.reads } → new.reads ≡ old.reads → new ≡ old
 unchanged old new others kept = others ∙ ap (λ reads. record old { reads = reads }) kept
 
 -- a run whose blob wasn't read
@@ -72,7 +72,7 @@ RunComesTo-unread asked answers.Memory old new fails others = inl (unchanged old
 -- a run whose file of replies wasn't read
 pub RunComesTo-no_replies :
     (asked : RunCommand) (answer : Answer) (old new : Snapshot) (blob : List ℕ) → HoldsBlob old.files asked.blob blob
-    → FailsToReadReplies old.files asked.settings.replies old.reads new.reads answer → new ≡ record old { reads = new.reads }
+    → FailsToReadReplies old.files asked.settings.replies 1 old.reads new.reads answer → new ≡ record old { reads = new.reads }
     → RunComesTo asked answer old new
 RunComesTo-no_replies asked answer old new blob holds fails others = by_name asked.settings.replies refl fails
   where
@@ -98,7 +98,7 @@ RunComesTo-no_replies asked answer old new blob holds fails others = by_name ask
         inr (inl (record { blob = blob; blob_held = holds.held; fits = holds.len; name = name; is_name = is; failed = record { later = fails.later; cause = fails.cause; others = others } }))
     by_answer name is answers.Memory fails = inl (unchanged old new others fails)
 
-    by_name : (o : Option (List ℕ)) → asked.settings.replies ≡ o → FailsToReadReplies old.files o old.reads new.reads answer → RunComesTo asked answer old new
+    by_name : (o : Option (List ℕ)) → asked.settings.replies ≡ o → FailsToReadReplies old.files o 1 old.reads new.reads answer → RunComesTo asked answer old new
     by_name None is fails = absurd fails
     by_name (Some name) is fails = by_answer name is answer fails
 

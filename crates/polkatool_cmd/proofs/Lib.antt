@@ -8,3 +8,4 @@ mod RunFaults
 mod Answering
 mod Reading
 mod Blobs
+mod Execing

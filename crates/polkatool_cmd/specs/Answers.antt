@@ -14,12 +14,14 @@ use Rattle.transcript.specs.Hosts.{Reply, replying, start_host}
 use Rattle.transcript.specs.Lines.{transcript}
 use Rattle.transcript.specs.Telling.{IsStopped}
 use Rattle.link_core.specs.Runs.{machine_run}
-use Rattle.polkatool_cmd.specs.Commands.{Command, Link, Run, Check, Disassemble}
+use Rattle.link_core.specs.Linked.{Linked}
+use Rattle.polkatool_cmd.specs.Commands.{Command, Link, Run, Exec, Check, Disassemble}
 use Rattle.polkatool_cmd.specs.RunWords.{RunCommand}
+use Rattle.polkatool_cmd.specs.ExecWords.{ExecCommand}
 use Rattle.polkatool_cmd.specs.Snapshot.{Snapshot, Stream, Holds, HasFault, FailedRead}
-use Rattle.polkatool_cmd.specs.LinkAnswers.{LinkComesTo}
+use Rattle.polkatool_cmd.specs.LinkAnswers.{HasObjects, LinksFiles, HasLargeFile, HasObjectFault, FailedObject, LinkComesTo}
 use Rattle.polkatool_cmd.specs.BlobFaults.{first_disassemble_fault}
-use Rattle.polkatool_cmd.specs.RunFaults.{first_run_fault}
+use Rattle.polkatool_cmd.specs.RunFaults.{first_run_fault, first_start_fault, replies_fault}
 use Rattle.polkatool_cmd.specs.CheckFaults.{first_check_fault}
 use Rattle.polkatool_cmd.specs.Running.{HoldsReplies}
 use Rattle.polkatool_cmd.specs.Statuses.{status_of}
@@ -59,10 +61,10 @@ pub record HasRunFault (files : Option Files) (asked : RunCommand) (fault : Faul
   pub file_held : length blob ≤ 2 ^ 27 → HoldsReplies files asked.settings.replies file
   pub first : first_run_fault asked.settings.entry asked.settings.argument blob file ≡ Some fault
 
--- The run ended with this status, and its transcript was put; all else is as before.
-pub record HasRun (asked : RunCommand) (status : Status) (old new : Snapshot) : Type 0 where
+-- The run that was asked for ended with this status, and its transcript was put; all else is as before.
+pub record HasRun (IsAsked : Paid Event End → Type 0) (status : Status) (old new : Snapshot) : Type 0 where
   pub run : Paid Event End
-  pub is_run : HoldsRun old.files asked run
+  pub is_run : IsAsked run
   pub ended : status_of run.end ≡ status
   pub told : Appends old.out new.out (transcript run)
   pub others : new ≡ record old { out = new.out }
@@ -78,18 +80,18 @@ pub record FailedReplies (asked : RunCommand) (old new : Snapshot) : Type 0 wher
   pub failed : FailedRead name old new
 
 -- A put of the run's transcript failed after a prefix of it; all else is as before.
-pub record FailedTranscript (asked : RunCommand) (old new : Snapshot) : Type 0 where
+pub record FailedTranscript (IsAsked : Paid Event End → Type 0) (old new : Snapshot) : Type 0 where
   pub run : Paid Event End
-  pub is_run : HoldsRun old.files asked run
+  pub is_run : IsAsked run
   pub told : AppendsFront old.out new.out (transcript run)
   pub cause : Rose old.puts new.puts
   pub others : new ≡ record old { out = new.out; puts = new.puts }
 
 -- An allocation failed at an `sbrk` that would map pages, where the run's machine had come to. The lines of the calls
 -- before it were put, a prefix of the transcript; all else is as before.
-pub record StoppedRun (asked : RunCommand) (old new : Snapshot) : Type 0 where
+pub record StoppedRun (IsAsked : Paid Event End → Type 0) (old new : Snapshot) : Type 0 where
   pub run : Paid Event End
-  pub is_run : HoldsRun old.files asked run
+  pub is_run : IsAsked run
   pub machine : Machine
   pub stopped : IsStopped run machine (record { text = old.out; puts = old.puts }) (record { text = new.out; puts = new.puts })
   pub others : new ≡ record old { out = new.out }
@@ -98,17 +100,79 @@ pub record StoppedRun (asked : RunCommand) (old new : Snapshot) : Type 0 where
 -- entry and with the argument; or a read or a put failed; or an allocation failed, before anything was put or at an
 -- `sbrk`. After a refusal all is as before.
 abbrev pub RunComesTo : RunCommand → Answer → Snapshot → Snapshot → Type 0
-RunComesTo asked answers.Done old new = HasRun asked statuses.Done old new
-RunComesTo asked answers.Panicked old new = HasRun asked statuses.Panicked old new
-RunComesTo asked answers.Faulted old new = HasRun asked statuses.Faulted old new
-RunComesTo asked answers.OutOfGas old new = HasRun asked statuses.OutOfGas old new
-RunComesTo asked answers.Unanswered old new = HasRun asked statuses.Unanswered old new
-RunComesTo asked answers.BadReply old new = HasRun asked statuses.BadReply old new
+RunComesTo asked answers.Done old new = HasRun (HoldsRun old.files asked) statuses.Done old new
+RunComesTo asked answers.Panicked old new = HasRun (HoldsRun old.files asked) statuses.Panicked old new
+RunComesTo asked answers.Faulted old new = HasRun (HoldsRun old.files asked) statuses.Faulted old new
+RunComesTo asked answers.OutOfGas old new = HasRun (HoldsRun old.files asked) statuses.OutOfGas old new
+RunComesTo asked answers.Unanswered old new = HasRun (HoldsRun old.files asked) statuses.Unanswered old new
+RunComesTo asked answers.BadReply old new = HasRun (HoldsRun old.files asked) statuses.BadReply old new
 RunComesTo asked (answers.Refused fault) old new = HasRunFault old.files asked fault × (new ≡ old)
 RunComesTo asked answers.Usage old new = ⊥
 RunComesTo asked answers.FileFault old new =
-    FailedRead asked.blob old new ⊎ (FailedReplies asked old new ⊎ FailedTranscript asked old new)
-RunComesTo asked answers.Memory old new = (new ≡ old) ⊎ StoppedRun asked old new
+    FailedRead asked.blob old new ⊎ (FailedReplies asked old new ⊎ FailedTranscript (HoldsRun old.files asked) old new)
+RunComesTo asked answers.Memory old new = (new ≡ old) ⊎ StoppedRun (HoldsRun old.files asked) old new
+
+-- The files of an exec's objects are linked, the file of replies has replies, and this is the linked program's run from
+-- the entry, with the argument, these replies and this gas. Its container agrees with the objects (`links`).
+pub record HoldsExec (files : Option Files) (asked : ExecCommand) (run : Paid Event End) : Type 0 where
+  pub linked : Linked
+  pub links : LinksFiles files asked.input linked
+  pub file : List ℕ
+  pub file_held : HoldsReplies files asked.settings.replies file
+  pub no_replies_fault : replies_fault (length asked.input.objects) file ≡ None
+  pub replies : List Reply
+  pub are_replies : replies_of file ≡ Ok replies
+  pub no_start_fault : first_start_fault asked.settings.entry asked.settings.argument linked.container ≡ None
+  pub run_is : run ≡ machine_run replying (start_host replies) links.holds.container asked.settings.entry asked.settings.argument asked.settings.gas
+
+-- The objects' files are read, and the file of replies has this fault.
+pub record HasRepliesFault (told : Option Files) (asked : ExecCommand) (fault : Fault) : Type 0 where
+  pub files : List (List ℕ)
+  pub objects : HasObjects told asked.input files
+  pub file : List ℕ
+  pub file_held : HoldsReplies told asked.settings.replies file
+  pub first : replies_fault (length asked.input.objects) file ≡ Some fault
+
+-- The file of replies has no fault, and this is the first fault of the objects.
+pub record HasLinkFault (told : Option Files) (asked : ExecCommand) (fault : Fault) : Type 0 where
+  pub file : List ℕ
+  pub file_held : HoldsReplies told asked.settings.replies file
+  pub no_fault : replies_fault (length asked.input.objects) file ≡ None
+  pub object_fault : HasObjectFault told asked.input fault
+
+-- The objects are linked, and the linked program can't be started, with this fault.
+pub record HasStartFault (told : Option Files) (asked : ExecCommand) (fault : Fault) : Type 0 where
+  pub linked : Linked
+  pub links : LinksFiles told asked.input linked
+  pub file : List ℕ
+  pub file_held : HoldsReplies told asked.settings.replies file
+  pub no_fault : replies_fault (length asked.input.objects) file ≡ None
+  pub first : first_start_fault asked.settings.entry asked.settings.argument linked.container ≡ Some fault
+
+-- The objects' files were read, and the file of replies is missing or its read failed; all else is as before.
+pub record FailedExecReplies (asked : ExecCommand) (old new : Snapshot) : Type 0 where
+  pub files : List (List ℕ)
+  pub objects : HasObjects old.files asked.input files
+  pub name : List ℕ
+  pub is_name : asked.settings.replies ≡ Some name
+  pub failed : FailedRead name old new
+
+-- What an exec comes to: the run ended, as the answer says, and is told; or it is refused, with the first file that is too
+-- large, or else the first fault of the file of replies, of the objects, or of the start; or a read or a put failed; or an
+-- allocation failed, before anything was put or at an `sbrk`. After a refusal all is as before.
+abbrev pub ExecComesTo : ExecCommand → Answer → Snapshot → Snapshot → Type 0
+ExecComesTo asked answers.Done old new = HasRun (HoldsExec old.files asked) statuses.Done old new
+ExecComesTo asked answers.Panicked old new = HasRun (HoldsExec old.files asked) statuses.Panicked old new
+ExecComesTo asked answers.Faulted old new = HasRun (HoldsExec old.files asked) statuses.Faulted old new
+ExecComesTo asked answers.OutOfGas old new = HasRun (HoldsExec old.files asked) statuses.OutOfGas old new
+ExecComesTo asked answers.Unanswered old new = HasRun (HoldsExec old.files asked) statuses.Unanswered old new
+ExecComesTo asked answers.BadReply old new = HasRun (HoldsExec old.files asked) statuses.BadReply old new
+ExecComesTo asked (answers.Refused fault) old new =
+    (HasLargeFile old.files asked.input fault ⊎ (HasRepliesFault old.files asked fault ⊎ (HasLinkFault old.files asked fault ⊎ HasStartFault old.files asked fault))) × (new ≡ old)
+ExecComesTo asked answers.Usage old new = ⊥
+ExecComesTo asked answers.FileFault old new =
+    FailedObject asked.input old new ⊎ (FailedExecReplies asked old new ⊎ FailedTranscript (HoldsExec old.files asked) old new)
+ExecComesTo asked answers.Memory old new = (new ≡ old) ⊎ StoppedRun (HoldsExec old.files asked) old new
 
 -- The name holds a container without such a fault, and its text was put; all else is as before.
 pub record HasTold (first_of : List ℕ → Option Fault) (text_of : Container → List ℕ) (blob : List ℕ)
@@ -158,6 +222,7 @@ abbrev pub ComesTo : Option Command → Answer → Snapshot → Snapshot → Typ
 ComesTo None answer old new = (answer ≡ answers.Usage) × (new ≡ old)
 ComesTo (Some (Link link)) answer old new = LinkComesTo link answer old new
 ComesTo (Some (Run run)) answer old new = RunComesTo run answer old new
+ComesTo (Some (Exec exec)) answer old new = ExecComesTo exec answer old new
 ComesTo (Some (Check blob)) answer old new = CheckComesTo blob answer old new
 ComesTo (Some (Disassemble blob)) answer old new = DisassembleComesTo blob answer old new
 
@@ -200,5 +265,6 @@ abbrev pub KeepsFiles : Option Command → Option Files → Option Files → Typ
 KeepsFiles None old new = new ≡ old
 KeepsFiles (Some (Link link)) old new = KeepsOthers link.output old new
 KeepsFiles (Some (Run run)) old new = new ≡ old
+KeepsFiles (Some (Exec exec)) old new = new ≡ old
 KeepsFiles (Some (Check blob)) old new = new ≡ old
 KeepsFiles (Some (Disassemble blob)) old new = new ≡ old

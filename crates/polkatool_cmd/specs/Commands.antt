@@ -7,6 +7,8 @@ use Rattle.polkatool_cmd.specs.LinkWords.{LinkCommand, link_command_of}
 use Rattle.polkatool_cmd.specs.LinkRead.{link_in}
 use Rattle.polkatool_cmd.specs.RunWords.{RunCommand, run_command_of}
 use Rattle.polkatool_cmd.specs.RunRead.{run_in}
+use Rattle.polkatool_cmd.specs.ExecWords.{ExecCommand, exec_command_of}
+use Rattle.polkatool_cmd.specs.ExecRead.{exec_in}
 use Rattle.polkatool_cmd.specs.declared.commands.Command.{Command as Asked}
 use Rattle.polkatool_cmd.specs.declared.commands.Command.TheVariants as asked
 
@@ -14,6 +16,7 @@ use Rattle.polkatool_cmd.specs.declared.commands.Command.TheVariants as asked
 pub data Command : Type 0 where
   Link : (link : LinkCommand) → Command
   Run : (run : RunCommand) → Command
+  Exec : (exec : ExecCommand) → Command
   Check : (blob : List ℕ) → Command
   Disassemble : (blob : List ℕ) → Command
 
@@ -28,13 +31,15 @@ command_of [] = None
 command_of (verb ∷ words) =
     if bytes_eq verb (codes "link") then option_map Link (link_command_of words)
     else (if bytes_eq verb (codes "run") then option_map Run (run_command_of words)
+    else (if bytes_eq verb (codes "exec") then option_map Exec (exec_command_of words)
     else (if bytes_eq verb (codes "check") then option_map Check (blob_of words)
     else (if bytes_eq verb (codes "disassemble") then option_map Disassemble (blob_of words)
-    else None)))
+    else None))))
 
 -- the command that was asked for
 abbrev pub command_in : Asked → Command
 command_in (asked.Link c) = Link (link_in c)
 command_in (asked.Run c) = Run (run_in c)
+command_in (asked.Exec c) = Exec (exec_in c)
 command_in (asked.Check blob) = Check blob.now
 command_in (asked.Disassemble blob) = Disassemble blob.now

@@ -52,6 +52,12 @@ abbrev pub reply_line_fault : Result (List Reply) ℕ → Option Fault
 reply_line_fault (Ok replies) = None
 reply_line_fault (Err line) = Some (bad_reply_line line)
 
+-- the first fault of a file of replies, with its number in the order of reading: more than 2^20 bytes, or a line that is no
+-- reply
+abbrev pub replies_fault : ℕ → List ℕ → Option Fault
+replies_fault number file =
+    where_true (nat_lt (2 ^ 20) (length file)) (file_too_large number) or_else reply_line_fault (replies_of file)
+
 -- The first fault of what a blob's file and a file of replies hold, for a run from an entry with an argument, in this
 -- order: more than 2^27 bytes of the first; more than 2^20 bytes of the second; a line that is no reply; no container,
 -- or what is wrong with it. Without a file of replies the second has no bytes.

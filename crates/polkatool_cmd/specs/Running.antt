@@ -32,10 +32,10 @@ pub record HasReplies (files : Option Files) (name : Option (List ℕ)) (bytes :
   pub held : HoldsReplies files name bytes
   pub len : length bytes ≤ 2 ^ 20
 
--- why the file of replies, which is the second, isn't read; only a failed read moves the count
-abbrev pub FailsToReadReplies : Option Files → Option (List ℕ) → ℕ → ℕ → Answer → Type 0
-FailsToReadReplies files None before now answer = ⊥
-FailsToReadReplies files (Some name) before now answer = FailsToReadOne files name 1 (2 ^ 20) before now answer
+-- why the file of replies, with a number in the order of reading, isn't read; only a failed read moves the count
+abbrev pub FailsToReadReplies : Option Files → Option (List ℕ) → ℕ → ℕ → ℕ → Answer → Type 0
+FailsToReadReplies files None number before now answer = ⊥
+FailsToReadReplies files (Some name) number before now answer = FailsToReadOne files name number (2 ^ 20) before now answer
 
 -- the file is a container without a fault, and the machine is at the start that is asked for
 pub record Starts (file : List ℕ) (asked : Settings) (m : Machine) : Type 0 where

@@ -5,6 +5,7 @@ use crate::answer::Answer;
 use crate::check::check_blob;
 use crate::commands::Command;
 use crate::disassemble::disassemble_blob;
+use crate::exec::exec;
 use crate::link_objects::link;
 use crate::run::run;
 use crate::words::{Words, command_of};
@@ -38,6 +39,7 @@ pub(crate) fn answer_to<F: Folder, O: Sink>(
     match command_of(words) {
         Some(Command::Link(command)) => link(alloc, &command, files, out),
         Some(Command::Run(command)) => run(alloc, &command, files, out),
+        Some(Command::Exec(command)) => exec(alloc, &command, files, out),
         Some(Command::Check(blob)) => check_blob(alloc, blob, files, out),
         Some(Command::Disassemble(blob)) => disassemble_blob(alloc, blob, files, out),
         None => Answer::Usage,

@@ -6,6 +6,7 @@ use crate::link_input::LinkInput;
 pub(crate) enum Command<'a> {
     Link(LinkCommand<'a>),
     Run(RunCommand<'a>),
+    Exec(ExecCommand<'a>),
     /// The check of a program, by the name of its file.
     Check(&'a str),
     /// The disassembly of a program, by the name of its file.

@@ -1,7 +1,7 @@
 //! The top call: a list of words, a folder and two sinks give a status.
 //!
-//! `specs/Commands.antt` says which words are a command, `specs/LinkWords.antt` which are a link and `specs/RunWords.antt`
-//! which are a run, `specs/Faults.antt` which files are too large, `specs/BlobFaults.antt` why what a file holds is no
+//! `specs/Commands.antt` says which words are a command, `specs/LinkWords.antt` which are a link, `specs/RunWords.antt`
+//! which are a run and `specs/ExecWords.antt` which are an exec, `specs/Faults.antt` which files are too large, `specs/BlobFaults.antt` why what a file holds is no
 //! container, `specs/RunFaults.antt` and `specs/CheckFaults.antt` why a container isn't run or is no checked one, and
 //! `specs/Answers.antt` and `specs/LinkAnswers.antt` what a command comes to and how that is told. Why objects aren't
 //! linked says `link_core`.
@@ -17,6 +17,7 @@ mod check;
 mod command;
 mod commands;
 mod disassemble;
+mod exec;
 mod exec_words;
 mod fault_codes;
 mod fault_names;
@@ -48,7 +49,8 @@ pub use words::Words;
 /// `--arg HEX` and `--replies FILE`: the container in the file BLOB is run from entry I, by default 0, with gas N, by default
 /// 10,000,000, with the bytes that the digits HEX spell as its argument, by default none, and with the lines of FILE as
 /// replies to its host calls, by default none; the transcript of the run is put on out while it runs.
-/// Or they are `check BLOB`: where the container's program has no fault, `ok` and a line feed are put on out. Or
+/// Or they are `exec` with the options of `link` but `-o`, those of `run`, and OBJ once or more: the objects are linked, and
+/// the linked program is run as by `run`. Or they are `check BLOB`: where the container's program has no fault, `ok` and a line feed are put on out. Or
 /// `disassemble BLOB`: the text of the program is put on out, whatever a check would say. All other words are a faulty
 /// command line, for which no memory is taken.
 pub fn polkatool<F: Folder, O: Sink, E: Sink>(

@@ -7,12 +7,14 @@ ghost use Rattle.polkatool_cmd.specs.LinkRead.{input_in, link_in};
 ghost use Rattle.polkatool_cmd.specs.Faults.{file_too_large, limit_of};
 ghost use Rattle.polkatool_cmd.specs.Snapshot.{Holds};
 ghost use Rattle.polkatool_cmd.specs.Answers.{ComesTo};
-ghost use Rattle.polkatool_cmd.specs.LinkAnswers.{LinksFiles};
+ghost use Rattle.polkatool_cmd.specs.LinkAnswers.{HasObjects, LinksFiles};
+ghost use Rattle.link_core.specs.Faults.{input_of, HasNoFault, HasFirstFault, Refuses};
+ghost use Rattle.link_core.specs.Linked.{HoldsLinked};
 ghost use Rattle.polkatool_cmd.specs.Linking.{HasRead, FailsToReadOne, FailsToReadAll, LinksOrFails};
 
 use crate::answer::Answer;
-use crate::fault_codes::FILE_TOO_LARGE;
 use crate::commands::LinkCommand;
+use crate::fault_codes::FILE_TOO_LARGE;
 use crate::link_input::LinkInput;
 use elf_objects::Fault;
 use link_core::{Bundle, LinkFault, Linked};
@@ -78,18 +80,50 @@ fn link_files<F: Folder>(
     ensures files { F.files files.new ≡ F.files files.old }
     ensures writes { F.write_faults files.new ≡ F.write_faults files.old }
 {
-    let Ok(names) = input.objects(alloc) else {
-        return Err(Answer::Memory);
-    };
-    let Ok(wanted) = input.wanted(alloc) else {
-        return Err(Answer::Memory);
-    };
-    let bundle = read_files(alloc, &names, files)?;
-    match link_core::link(alloc, &bundle, &wanted) {
+    let bundle = read_objects(alloc, input, files)?;
+    match link_bundle(alloc, input, &bundle) {
         Ok(linked) => Ok(linked),
         Err(LinkFault::Bad(fault)) => Err(Answer::Refused(fault)),
         Err(LinkFault::Memory) => Err(Answer::Memory),
     }
+}
+
+/// Reads the objects' files.
+///
+/// # Errors
+/// The answer of the command.
+pub(crate) fn read_objects<F: Folder>(
+    alloc: Global,
+    input: &LinkInput<'_>,
+    files: &mut F,
+) -> Result<Bundle, Answer>
+    ensures read { MatchResult result
+        (HasObjects (F.files files.old) (input_in input.now))
+        (FailsToReadAll (F.files files.old) (input_in input.now).objects (F.read_faults files.old) (F.read_faults files.new)) }
+    ensures reads { OnOk result (F.read_faults files.new ≡ F.read_faults files.old) }
+    ensures files { F.files files.new ≡ F.files files.old }
+    ensures writes { F.write_faults files.new ≡ F.write_faults files.old }
+{
+    let Ok(names) = input.objects(alloc) else {
+        return Err(Answer::Memory);
+    };
+    read_files(alloc, &names, files)
+}
+
+/// Links the objects of a bundle into what is wanted.
+pub(crate) fn link_bundle(
+    alloc: Global,
+    input: &LinkInput<'_>,
+    bundle: &Bundle,
+) -> Result<Linked, LinkFault>
+    ensures { MatchResult result
+        (λ linked. HasNoFault bundle.now (input_in input.now).wanted × HoldsLinked (input_of bundle.now (input_in input.now).wanted) linked)
+        (Refuses (HasFirstFault bundle.now (input_in input.now).wanted)) }
+{
+    let Ok(wanted) = input.wanted(alloc) else {
+        return Err(LinkFault::Memory);
+    };
+    link_core::link(alloc, bundle, &wanted)
 }
 
 /// Reads files in order, each of at most 2^24 bytes and within what is left of 2^26.

@@ -12,8 +12,8 @@ ghost use Rattle.polkatool_cmd.specs.LinkRead.{read_import, counts_of, input_in,
 ghost use Rattle.polkatool_cmd.specs.Items.{items};
 ghost use Rattle.polkatool_cmd.specs.ItemRead.{item_of};
 
-use crate::items::{Item, count_with, first_item};
 use crate::commands::LinkCommand;
+use crate::items::{Item, count_with, first_item};
 use crate::link_input::LinkInput;
 use crate::values::{name, number_below};
 use outside::Bytes;

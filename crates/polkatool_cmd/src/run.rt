@@ -56,7 +56,7 @@ pub(crate) fn run<F: Folder, O: Sink>(
         Ok(file) => file,
         Err(answer) => return answer,
     };
-    let lines = match read_replies(alloc, command.settings.replies, files) {
+    let lines = match read_replies(alloc, command.settings.replies, 1, files) {
         Ok(lines) => lines,
         Err(answer) => return answer,
     };
@@ -72,37 +72,38 @@ pub(crate) fn run<F: Folder, O: Sink>(
     }
 }
 
-/// The bytes of the file of replies, which is the second to be read. Without one there are none.
+/// The bytes of the file of replies, with its number in the order of reading. Without one there are none.
 ///
 /// # Errors
 /// The answer of the command: a file fault, a refusal of too many bytes, or want of memory.
-fn read_replies<F: Folder>(
+pub(crate) fn read_replies<F: Folder>(
     alloc: Global,
     name: Option<&str>,
+    number: u32,
     files: &mut F,
 ) -> Result<Bytes, Answer>
     ensures read { MatchResult result
         (HasReplies (F.files files.old) (option_copied name.entry))
-        (FailsToReadReplies (F.files files.old) (option_copied name.entry) (F.read_faults files.old) (F.read_faults files.new)) }
+        (FailsToReadReplies (F.files files.old) (option_copied name.entry) number (F.read_faults files.old) (F.read_faults files.new)) }
     ensures reads { OnOk result (F.read_faults files.new ≡ F.read_faults files.old) }
     ensures files { F.files files.new ≡ F.files files.old }
     ensures writes { F.write_faults files.new ≡ F.write_faults files.old }
 {
     match name {
-        Some(name) => read_file(alloc, name, 1, REPLIES_LIMIT, files),
+        Some(name) => read_file(alloc, name, number, REPLIES_LIMIT, files),
         None => Ok(Bytes::new(alloc)),
     }
 }
 
 /// The fault of a line that is no reply.
-fn bad_reply_line(line: u32) -> Fault
+pub(crate) fn bad_reply_line(line: u32) -> Fault
     ensures { result ≡ bad_reply_line_of line }
 {
     blob_fault_at(BAD_REPLY_LINE, u64::from(line))
 }
 
 /// The machine at the start that settings ask for, of the container that a file is.
-fn start<'a>(
+pub(crate) fn start<'a>(
     alloc: Global,
     file: &'a [u8],
     settings: &Settings<'_>,
@@ -129,7 +130,7 @@ fn start<'a>(
 }
 
 /// Runs a machine to its end, with replies to its calls, and puts the transcript.
-fn finish<O: Sink>(machine: &mut Machine<'_>, replies: &Replies, out: &mut O) -> Answer
+pub(crate) fn finish<O: Sink>(machine: &mut Machine<'_>, replies: &Replies, out: &mut O) -> Answer
     ensures { Tells (run_with replying (start_host replies.now) machine.old) machine.new result
         (record { text = O.bytes out.old; puts = O.faults out.old })
         (record { text = O.bytes out.new; puts = O.faults out.new }) }

@@ -3,6 +3,7 @@ ghost use Rattle.std.specs.Option.{option_copied, option_map};
 ghost use Rattle.polkatool_cmd.specs.Commands.{command_of, command_in, blob_of};
 
 use crate::commands::Command;
+use crate::exec_words::exec_command;
 use crate::link_words::link_command;
 use crate::run_words::run_command;
 use crate::values::file;
@@ -63,6 +64,8 @@ pub(crate) fn command_of(words: &Words) -> Option<Command<'_>>
         Some(Command::Link(link_command(rest)?))
     } else if verb.as_slice() == b"run".as_slice() {
         Some(Command::Run(run_command(rest)?))
+    } else if verb.as_slice() == b"exec".as_slice() {
+        Some(Command::Exec(exec_command(rest)?))
     } else if verb.as_slice() == b"check".as_slice() {
         Some(Command::Check(blob_of(rest)?))
     } else if verb.as_slice() == b"disassemble".as_slice() {

@@ -1,0 +1,56 @@
+use Rattle.std.proofs.Common.{rules, ◌≡◌, ◌≤◌, ◌^◌, length, None, sym, ap, ◌∙◌, subst, inl, inr, arith}
+use Rattle.pvm_machine.specs.Ran.{run_with}
+use Rattle.transcript.specs.Hosts.{replying, start_host}
+use Rattle.link_core.specs.Runs.{machine_run}
+use Rattle.polkatool_cmd.specs.Answers.{HoldsExec, HasStartFault}
+use Rattle.polkatool_cmd.specs.ExecRead.{exec_in}
+use Rattle.polkatool_cmd.specs.Running.{HoldsReplies}
+use Rattle.polkatool_cmd.proofs.Execing.{ExecComesTo-no_replies, replies_fault-none, one_container}
+use Rattle.polkatool_cmd.proofs.Answering.{ExecComesTo-told}
+use Rattle.polkatool_cmd.proofs.exec.exec.Goals as goal
+
+pub returns-in-Err-read_replies-clause-comes : goal.returns-in-Err-read_replies-clause-comes
+returns-in-Err-read_replies-clause-comes g c =
+    ExecComesTo-no_replies (exec_in c.args.command.now) _ _ _ c.in-Ok.bundle c.len.result c.in-Ok.ensures.read c.len.ensures.count
+    (rw (c.in-Ok.ensures.files, c.in-Ok.ensures.reads) at c.in-Err-read_replies.ensures.read) (search rules)
+
+pub returns-in-Err-Bad-start-clause-comes : goal.returns-in-Err-Bad-start-clause-comes
+returns-in-Err-Bad-start-clause-comes g c =
+    let asked = exec_in c.args.command.now in
+    let files = g.F.Folder.files c.args.files.now in
+    let file = c.as_slice.result.now in
+    let short : length file ≤ 2 ^ 20 = omega (arith, ap length c.as_slice.ensures, c.in-Ok-read_replies.ensures.read.len) in
+    let holds : HasStartFault files asked c.in-Err-Bad-start.fault = record {
+      linked = c.in-Ok-link_bundle.linked;
+      links = record { files = c.in-Ok.bundle; objects = c.in-Ok.ensures.read; no_fault = c.in-Ok-link_bundle.ensures.0; holds = c.in-Ok-link_bundle.ensures.1 };
+      file = file;
+      file_held = subst (HoldsReplies files asked.settings.replies) (sym c.as_slice.ensures) (rw c.in-Ok.ensures.files at c.in-Ok-read_replies.ensures.read.held);
+      no_fault = replies_fault-none (length asked.input.objects) file c.in-Ok-read.replies short c.in-Ok-read.ensures;
+      first = rw (sym c.container.ensures) (rw c.in-Err-Bad-start.field-0-is at c.in-Err-Bad-start.ensures);
+    } in
+    (inr (inr (inr holds)), search rules)
+
+pub returns-in-Ok-start-clause-comes : goal.returns-in-Ok-start-clause-comes
+returns-in-Ok-start-clause-comes g c =
+    let asked = exec_in c.args.command.now in
+    let files = g.F.Folder.files c.args.files.now in
+    let starts = c.in-Ok-start.ensures in
+    let file = c.as_slice.result.now in
+    let replies = c.in-Ok-read.replies in
+    let linked = c.in-Ok-link_bundle.ensures.1 in
+    let short : length file ≤ 2 ^ 20 = omega (arith, ap length c.as_slice.ensures, c.in-Ok-read_replies.ensures.read.len) in
+    let holds : HoldsExec files asked (run_with replying (start_host replies) c.in-Ok-start.machine) = record {
+      linked = c.in-Ok-link_bundle.linked;
+      links = record { files = c.in-Ok.bundle; objects = c.in-Ok.ensures.read; no_fault = c.in-Ok-link_bundle.ensures.0; holds = linked };
+      file = file;
+      file_held = subst (HoldsReplies files asked.settings.replies) (sym c.as_slice.ensures) (rw c.in-Ok.ensures.files at c.in-Ok-read_replies.ensures.read.held);
+      no_replies_fault = replies_fault-none (length asked.input.objects) file replies short c.in-Ok-read.ensures;
+      replies = replies;
+      are_replies = c.in-Ok-read.ensures;
+      no_start_fault = rw (sym c.container.ensures) starts.no_fault;
+      run_is =
+          ap (run_with replying (start_host replies)) starts.machine_is
+          ∙ ap (λ k. machine_run replying (start_host replies) k asked.settings.entry asked.settings.argument asked.settings.gas)
+          (one_container c.container.result.now c.in-Ok-link_bundle.linked.container starts.container linked.container c.container.ensures linked.spelled linked.is_linked.fits starts.is_container);
+    } in
+    ExecComesTo-told asked _ c.finish.new.machine _ _ _ holds c.finish.ensures (search rules)
