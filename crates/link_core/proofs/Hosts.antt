@@ -1,5 +1,6 @@
 -- A host that gives replies answers well, where the calls on inner machines are served well.
-use Rattle.std.proofs.Common.{◌≡◌, ℕ, ◌+◌, Bool, true, false, List, [], ◌∷◌, length, map, Option, Some, None, refl, sym, ◌∙◌, arith}
+use Rattle.std.proofs.Common.{◌≡◌, ℕ, ◌+◌, Bool, true, false, List, [], ◌∷◌, length, map, Option, Some, None, refl, sym, ◌∙◌, subst, arith}
+use Rattle.std.proofs.Math.Path.{fun_ext}
 use Rattle.std.specs.Prelude.{if◌then◌else◌, sum}
 use Rattle.std.specs.Ordering.{nat_cmp}
 use Rattle.std.specs.FinMap as finite
@@ -10,8 +11,11 @@ use Rattle.machine_state.specs.Start.{Image, start_state}
 use Rattle.machine_state.specs.Ends.{Host}
 use Rattle.machine_state.specs.Hosts.{bounds_of, IsWorld, GoodAnswer, AnswersWell}
 use Rattle.machine_state.proofs.Registers.{registers_stay, memory_stays}
-use Rattle.transcript.specs.Hosts.{Reply, Inner, HostState, start_host, with_pieces, refused_of, reply_or, by_replies}
-use Rattle.link_core.specs.Hosts.{frames, is_inner, answers, IsReply, HostFits}
+use Rattle.transcript.specs.Hosts.{Reply, IsReply, Inner, HostState, start_host, with_pieces, refused_of, reply_or, by_replies, replying}
+use Rattle.runs.specs.Agree.{Agree}
+use Rattle.link_core.specs.Hosts.{frames, is_inner, answers, HostFits}
+use Rattle.link_core.specs.Runs.{source_run, machine_run}
+use Rattle.link_core.specs.Laws.{RepliesAgree}
 
 module _ (heap_bound : ℕ) where
   abbrev Good : World State HostState → Type 0
@@ -37,6 +41,22 @@ module _ (heap_bound : ℕ) where
       by_test : (b : Bool) → GoodAnswer Good (if b then serve number w else by_replies w.held.replies number w)
       by_test true = well number w g
       by_test false = replies_are_good w.held.replies number w refl g
+
+  replying_well : AnswersWell (HostFits heap_bound) replying
+  replying_well number w g = replies_are_good w.held.replies number w refl g
+
+-- a host that serves calls on inner machines by replies too has replies alone
+only_replies : answers replying ≡ replying
+only_replies = fun_ext (λ number. fun_ext (λ w. by_test number w (is_inner number)))
+  where
+    by_test : (number : ℕ) (w : World State HostState) (b : Bool) → (if b then replying number w else by_replies w.held.replies number w) ≡ replying number w
+    by_test number w true = refl
+    by_test number w false = refl
+
+pub replies_agree : RepliesAgree
+replies_agree given c agrees entry argument replies lt few are =
+    subst (λ (host : Host HostState). Agree (source_run host (start_host replies) given entry argument) (machine_run host (start_host replies) c entry argument)) only_replies
+    (agrees replying (λ heap_bound. replying_well heap_bound) entry argument replies lt few are)
 
 -- without entries there are no values
 none_sum : {A : Type 0} (es : List (ℕ × A)) (pages : A → ℕ) → length es ≡ 0 → sum (map pages (map (λ e. e.1) es)) ≡ 0

@@ -4,7 +4,7 @@
 //! machines' runs of `specs/Runs.antt`. `specs/Faults.antt` has the faults in their order.
 #![tactic(auto)]
 
-ghost use Rattle.link_core.specs.Laws.{LinkedAgrees, LinkedIsOne};
+ghost use Rattle.link_core.specs.Laws.{LinkedAgrees, LinkedIsOne, RepliesAgree};
 
 mod bundle;
 mod data_part;
@@ -35,6 +35,11 @@ pub fn linked_agrees()
     effects_keep_targets();
     start_is_good();
 }
+
+/// What agrees with every host agrees with a host that has replies alone.
+pub fn replies_agree()
+    ensures { RepliesAgree }
+{}
 
 /// A link's input has one linked program.
 pub fn linked_is_one()

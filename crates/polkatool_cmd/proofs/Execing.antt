@@ -1,6 +1,8 @@
 -- What the parts of an exec make of it.
-use Rattle.std.proofs.Common.{◌≡◌, ℕ, ◌^◌, ◌≤◌, List, length, Option, Some, None, Result, Ok, refl, sym, ap, ◌∙◌, inl, inr, arith}
-use Rattle.std.proofs.lemmas.Bool.{le-ltb, lt-ltb}
+use Rattle.std.proofs.Common.{◌≡◌, ℕ, ◌^◌, ◌≤◌, Bool, true, false, List, length, Option, Some, None, Result, Ok, refl, sym, ap, ◌∙◌, inl, inr, arith}
+use Rattle.std.specs.Prelude.{nat_lt}
+use Rattle.std.proofs.lemmas.Bool.{le-ltb, lt-ltb, ltb-false}
+use Rattle.faults.specs.First.{◌or_else◌, where_true}
 use Rattle.elf_objects.specs.declared.fault.Fault.{Fault}
 use Rattle.blob_codec.specs.Grammar.{Container, IsContainer, container_bytes}
 use Rattle.blob_codec.specs.declared.fault.BlobFault.{BlobFault}
@@ -15,7 +17,9 @@ use Rattle.polkatool_cmd.specs.ExecWords.{ExecCommand}
 use Rattle.polkatool_cmd.specs.Faults.{file_too_large}
 use Rattle.polkatool_cmd.specs.LinkAnswers.{HasObjects}
 use Rattle.polkatool_cmd.specs.Linking.{IsTooLarge, FailsToReadOne}
-use Rattle.polkatool_cmd.specs.RunFaults.{replies_fault}
+use Rattle.polkatool_cmd.specs.BlobFaults.{blob_fault, container_fault}
+use Rattle.polkatool_cmd.specs.RunFaults.{unbuilt_form, bad_entry_fault, run_fault_in, first_start_fault, replies_fault}
+use Rattle.polkatool_cmd.specs.declared.fault_codes.TheConstants.{ARGUMENT_TOO_LARGE}
 use Rattle.polkatool_cmd.specs.Running.{FailsToReadReplies}
 use Rattle.polkatool_cmd.specs.Snapshot.{Snapshot}
 use Rattle.polkatool_cmd.proofs.Blobs.{unchanged}
@@ -64,3 +68,12 @@ pub one_container : (file bytes : List ℕ) (c d : Container) → file ≡ bytes
 one_container file bytes c d same spelled is read =
     let again : ◌≡◌ {A = Result Container BlobFault} (Ok c) (Ok d) = sym read ∙ ap container_of (same ∙ spelled) ∙ container_again d is in
     cc
+
+-- where a start has no fault, its argument isn't too long
+pub argument_fits : (entry : ℕ) (argument file : List ℕ) (c : Container) → first_start_fault entry argument file ≡ None → container_of file ≡ Ok c → length argument ≤ 2 ^ 24
+argument_fits entry argument file c none is = by_test (nat_lt (2 ^ 24) (length argument)) refl (unbuilt_form c) (sym (ap (container_fault (run_fault_in entry argument)) is) ∙ none)
+  where
+    by_test : (b : Bool) → nat_lt (2 ^ 24) (length argument) ≡ b → (unbuilt : Option Fault) → (unbuilt or_else where_true b (blob_fault ARGUMENT_TOO_LARGE) or_else bad_entry_fault entry c) ≡ None → length argument ≤ 2 ^ 24
+    by_test false short unbuilt e = ltb-false (2 ^ 24) (length argument) short
+    by_test true long None e = absurd cc
+    by_test true long (Some fault) e = absurd cc

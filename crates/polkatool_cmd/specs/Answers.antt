@@ -1,9 +1,10 @@
 -- What a command comes to, and how that is told.
-use Rattle.std.specs.Prelude.{◌≡◌, ◌≤◌, ◌^◌, ◌⊎◌, ℕ, List, length, Option, Some, None, Ok}
+use Rattle.std.specs.Prelude.{◌≡◌, ◌<◌, ◌≤◌, ◌^◌, ◌⊎◌, ℕ, List, length, Option, Some, None, Ok}
 use Rattle.std.specs.Io.KnownBytes.{Appends}
 use Rattle.outside.specs.Outside.{Files, Rose, AppendsFront, KeepsOthers}
 use Rattle.elf_objects.specs.declared.fault.Fault.{Fault}
 use Rattle.runs.specs.Runs.{Paid}
+use Rattle.runs.specs.Agree.{Agree}
 use Rattle.machine_state.specs.Ends.{Event, End}
 use Rattle.blob_codec.specs.Grammar.{Container}
 use Rattle.blob_codec.specs.Reading.{container_of}
@@ -13,7 +14,8 @@ use Rattle.transcript.specs.Grammar.{replies_of}
 use Rattle.transcript.specs.Hosts.{Reply, replying, start_host}
 use Rattle.transcript.specs.Lines.{transcript}
 use Rattle.transcript.specs.Telling.{IsStopped}
-use Rattle.link_core.specs.Runs.{machine_run}
+use Rattle.link_core.specs.Faults.{input_of}
+use Rattle.link_core.specs.Runs.{source_run, machine_run}
 use Rattle.link_core.specs.Linked.{Linked}
 use Rattle.polkatool_cmd.specs.Commands.{Command, Link, Run, Exec, Check, Disassemble}
 use Rattle.polkatool_cmd.specs.RunWords.{RunCommand}
@@ -113,7 +115,8 @@ RunComesTo asked answers.FileFault old new =
 RunComesTo asked answers.Memory old new = (new ≡ old) ⊎ StoppedRun (HoldsRun old.files asked) old new
 
 -- The files of an exec's objects are linked, the file of replies has replies, and this is the linked program's run from
--- the entry, with the argument, these replies and this gas. Its container agrees with the objects (`links`).
+-- the entry, with the argument, these replies and this gas. The run agrees with that of the objects, where there is such
+-- an entry.
 pub record HoldsExec (files : Option Files) (asked : ExecCommand) (run : Paid Event End) : Type 0 where
   pub linked : Linked
   pub links : LinksFiles files asked.input linked
@@ -124,6 +127,9 @@ pub record HoldsExec (files : Option Files) (asked : ExecCommand) (run : Paid Ev
   pub are_replies : replies_of file ≡ Ok replies
   pub no_start_fault : first_start_fault asked.settings.entry asked.settings.argument linked.container ≡ None
   pub run_is : run ≡ machine_run replying (start_host replies) links.holds.container asked.settings.entry asked.settings.argument asked.settings.gas
+  pub agrees : asked.settings.entry < length asked.input.wanted.entries
+      → Agree (source_run replying (start_host replies) (input_of links.files asked.input.wanted) asked.settings.entry asked.settings.argument)
+      (machine_run replying (start_host replies) links.holds.container asked.settings.entry asked.settings.argument)
 
 -- The objects' files are read, and the file of replies has this fault.
 pub record HasRepliesFault (told : Option Files) (asked : ExecCommand) (fault : Fault) : Type 0 where

@@ -10,7 +10,7 @@ use crate::commands::ExecCommand;
 use crate::link_objects::{link_bundle, read_objects};
 use crate::run::{bad_reply_line, finish, read_replies, start};
 use crate::run_fault::RunFault;
-use link_core::LinkFault;
+use link_core::{LinkFault, replies_agree};
 use outside::{Folder, Sink};
 use std::alloc::Global;
 use transcript::{Replies, ReplyFault};
@@ -39,6 +39,7 @@ pub(crate) fn exec<F: Folder, O: Sink>(
         }) }
     ensures files { F.files files.new ≡ F.files files.old }
 {
+    replies_agree();
     let bundle = match read_objects(alloc, &command.input, files) {
         Ok(bundle) => bundle,
         Err(answer) => return answer,

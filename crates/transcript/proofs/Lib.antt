@@ -4,4 +4,5 @@ mod Ranges
 mod Ending
 pub mod Writing
 pub mod Reading
+pub mod Words
 pub mod Examples

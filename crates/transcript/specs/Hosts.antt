@@ -16,6 +16,10 @@ pub record Reply : Type 0 where
   pub second : ℕ
   pub pieces : List (ℕ × List ℕ)
 
+-- the registers of a reply are words
+abbrev pub IsReply : Reply → Type 0
+IsReply r = (r.first < 2 ^ 64) × (r.second < 2 ^ 64)
+
 -- a reply is stored as the tuple of its fields
 abbrev pub reply_code : Coded Reply
 reply_code =

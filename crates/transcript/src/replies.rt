@@ -1,10 +1,11 @@
 //! Replies to host calls.
 
 ghost use Rattle.std.specs.Prelude.{◌≡◌, ◌<◌, ◌≤◌, ◌^◌, ◌+◌, ◌++◌, ◌∷◌, [], Some, None, Ok, IfOk, OnOk, IfSome, MatchResult, length, slice_get, option_copied, option_map};
+ghost use Rattle.std.specs.List.{AllByRecursion};
 ghost use Rattle.std.specs.Vec.{vec_len};
 ghost use Rattle.page_memory.specs.Access.{with_bytes};
 ghost use Rattle.transcript.specs.Grammar.{FailsToRead, piece_in, piece_of, replies_of, reply_of, pieces_of, words_of};
-ghost use Rattle.transcript.specs.Hosts.{IsRepliedBy, first_refused, refused_of, with_pieces};
+ghost use Rattle.transcript.specs.Hosts.{IsReply, IsRepliedBy, first_refused, refused_of, with_pieces};
 
 use crate::number_parts::{hex_number, register_value};
 use crate::parts::{first_line, first_part};
@@ -219,7 +220,8 @@ impl Replies {
     /// `BadLine` for the first line that is no reply, counted from 1.
     pub fn read(alloc: Global, bytes: &[u8]) -> Result<Replies, ReplyFault>
         requires { length bytes.now ≤ 2 ^ 20 }
-        ensures { MatchResult result (λ replies. replies_of bytes.now ≡ Ok replies) (FailsToRead bytes.now) }
+        ensures read { MatchResult result (λ replies. replies_of bytes.now ≡ Ok replies) (FailsToRead bytes.now) }
+        ensures words { IfOk result (AllByRecursion IsReply) }
     {
         let mut items = Vec::new(alloc);
         let mut rest = bytes;

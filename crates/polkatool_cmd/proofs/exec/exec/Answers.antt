@@ -1,11 +1,12 @@
 use Rattle.std.proofs.Common.{rules, ◌≡◌, ◌≤◌, ◌^◌, length, None, sym, ap, ◌∙◌, subst, inl, inr, arith}
 use Rattle.pvm_machine.specs.Ran.{run_with}
 use Rattle.transcript.specs.Hosts.{replying, start_host}
+use Rattle.link_core.specs.Faults.{input_of}
 use Rattle.link_core.specs.Runs.{machine_run}
 use Rattle.polkatool_cmd.specs.Answers.{HoldsExec, HasStartFault}
 use Rattle.polkatool_cmd.specs.ExecRead.{exec_in}
 use Rattle.polkatool_cmd.specs.Running.{HoldsReplies}
-use Rattle.polkatool_cmd.proofs.Execing.{ExecComesTo-no_replies, replies_fault-none, one_container}
+use Rattle.polkatool_cmd.proofs.Execing.{ExecComesTo-no_replies, replies_fault-none, one_container, argument_fits}
 use Rattle.polkatool_cmd.proofs.Answering.{ExecComesTo-told}
 use Rattle.polkatool_cmd.proofs.exec.exec.Goals as goal
 
@@ -25,7 +26,7 @@ returns-in-Err-Bad-start-clause-comes g c =
       links = record { files = c.in-Ok.bundle; objects = c.in-Ok.ensures.read; no_fault = c.in-Ok-link_bundle.ensures.0; holds = c.in-Ok-link_bundle.ensures.1 };
       file = file;
       file_held = subst (HoldsReplies files asked.settings.replies) (sym c.as_slice.ensures) (rw c.in-Ok.ensures.files at c.in-Ok-read_replies.ensures.read.held);
-      no_fault = replies_fault-none (length asked.input.objects) file c.in-Ok-read.replies short c.in-Ok-read.ensures;
+      no_fault = replies_fault-none (length asked.input.objects) file c.in-Ok-read.replies short c.in-Ok-read.ensures.read;
       first = rw (sym c.container.ensures) (rw c.in-Err-Bad-start.field-0-is at c.in-Err-Bad-start.ensures);
     } in
     (inr (inr (inr holds)), search rules)
@@ -44,13 +45,16 @@ returns-in-Ok-start-clause-comes g c =
       links = record { files = c.in-Ok.bundle; objects = c.in-Ok.ensures.read; no_fault = c.in-Ok-link_bundle.ensures.0; holds = linked };
       file = file;
       file_held = subst (HoldsReplies files asked.settings.replies) (sym c.as_slice.ensures) (rw c.in-Ok.ensures.files at c.in-Ok-read_replies.ensures.read.held);
-      no_replies_fault = replies_fault-none (length asked.input.objects) file replies short c.in-Ok-read.ensures;
+      no_replies_fault = replies_fault-none (length asked.input.objects) file replies short c.in-Ok-read.ensures.read;
       replies = replies;
-      are_replies = c.in-Ok-read.ensures;
+      are_replies = c.in-Ok-read.ensures.read;
       no_start_fault = rw (sym c.container.ensures) starts.no_fault;
       run_is =
           ap (run_with replying (start_host replies)) starts.machine_is
           ∙ ap (λ k. machine_run replying (start_host replies) k asked.settings.entry asked.settings.argument asked.settings.gas)
           (one_container c.container.result.now c.in-Ok-link_bundle.linked.container starts.container linked.container c.container.ensures linked.spelled linked.is_linked.fits starts.is_container);
+      agrees = λ within.
+          c.replies_agree.ensures (input_of c.in-Ok.bundle asked.input.wanted) linked.container linked.agrees asked.settings.entry asked.settings.argument replies within
+          (argument_fits asked.settings.entry asked.settings.argument _ starts.container starts.no_fault starts.is_container) c.in-Ok-read.ensures.words;
     } in
     ExecComesTo-told asked _ c.finish.new.machine _ _ _ holds c.finish.ensures (search rules)

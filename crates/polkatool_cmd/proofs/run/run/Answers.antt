@@ -33,11 +33,11 @@ returns-in-Ok-start-clause-comes g c =
       blob_held = subst (Holds files asked.blob) (sym c.as_slice-2.ensures) c.in-Ok.ensures.read.held;
       file = file;
       file_held = subst (HoldsReplies files asked.settings.replies) (sym c.as_slice.ensures) (rw c.in-Ok.ensures.files at c.in-Ok-read_replies.ensures.read.held);
-      no_fault = run_fault-start asked.settings.entry asked.settings.argument blob file fits short replies None c.in-Ok-read.ensures starts.no_fault;
+      no_fault = run_fault-start asked.settings.entry asked.settings.argument blob file fits short replies None c.in-Ok-read.ensures.read starts.no_fault;
       container = starts.container;
       is_container = starts.is_container;
       replies = replies;
-      are_replies = c.in-Ok-read.ensures;
+      are_replies = c.in-Ok-read.ensures.read;
       run_is = ap (run_with replying (start_host replies)) starts.machine_is;
     } in
     RunComesTo-told asked _ c.finish.new.machine _ _ _ holds c.finish.ensures (search rules)
