@@ -4,6 +4,8 @@
 #[cfg(test)]
 mod blob_tests;
 #[cfg(test)]
+mod exec_tests;
+#[cfg(test)]
 mod fixtures;
 #[cfg(test)]
 mod link_tests;

@@ -5,6 +5,7 @@ use Rattle.std.specs.Str.{bytes_eq}
 use Rattle.symbols.specs.declared.wanted.ImportKind.{ImportKind}
 use Rattle.symbols.specs.declared.wanted.ImportKind.TheVariants.{Host, Sbrk}
 use Rattle.symbols.specs.Wanted.{Import, Wanted}
+use Rattle.link_core.specs.Hosts.{is_inner}
 use Rattle.polkatool_cmd.specs.Items.{Item, items, value_in, file_in}
 use Rattle.polkatool_cmd.specs.Values.{file_value_of, number_below}
 
@@ -13,9 +14,13 @@ abbrev pub wanted_name : List ℕ → Option (List ℕ)
 wanted_name [] = None
 wanted_name (b ∷ bs) = Some (b ∷ bs)
 
+-- the host call of a number, which is none of those on inner machines: these are not supported yet
+abbrev pub host_call : ℕ → Option ImportKind
+host_call number = if is_inner number then None else Some (Host number)
+
 -- what an import stands for: the host call of a number below 2^31, or `sbrk`
 abbrev pub kind_in_value : List ℕ → Option ImportKind
-kind_in_value word = if bytes_eq word (codes "sbrk") then Some Sbrk else option_map Host (number_below (2 ^ 31) word)
+kind_in_value word = if bytes_eq word (codes "sbrk") then Some Sbrk else option_and_then host_call (number_below (2 ^ 31) word)
 
 abbrev pub import_with : Option (List ℕ) → Option ImportKind → Option Import
 import_with None kind = None

@@ -4,7 +4,7 @@ ghost use Rattle.std.specs.Prelude.{◌≡◌, ◌^◌, ◌<◌, IfSome, IsTrue,
 ghost use Rattle.std.specs.Prelude.{option_map, option_copied, slice_get};
 ghost use Rattle.std.specs.List.{before_last, after_last, list_all};
 ghost use Rattle.symbols.specs.Wanted.{IsHostNumber};
-ghost use Rattle.polkatool_cmd.specs.LinkWords.{wanted_name, kind_in_value, import_in_value, is_equals_sign};
+ghost use Rattle.polkatool_cmd.specs.LinkWords.{host_call, wanted_name, kind_in_value, import_in_value, is_equals_sign};
 ghost use Rattle.polkatool_cmd.specs.LinkWords.{output_in, entry_in, import_in, stack_in, is_of_link, is_of_objects};
 ghost use Rattle.polkatool_cmd.specs.LinkWords.{outputs, entries, imports, stacks, objects, is_imported, repeats_import, name_objects, is_link, input_with, stack_of};
 ghost use Rattle.polkatool_cmd.specs.LinkWords.{link_command_of};
@@ -293,5 +293,17 @@ fn kind_in_value(word: &[u8]) -> Option<ImportKind>
     if word == b"sbrk".as_slice() {
         return Some(ImportKind::Sbrk);
     }
-    Some(ImportKind::Host(number_below(word, 1 << 31)?))
+    host_call(number_below(word, 1 << 31)?)
+}
+
+/// The host call of a number, which is none of those on inner machines: these are not supported yet.
+fn host_call(number: u32) -> Option<ImportKind>
+    requires { number < 2 ^ 31 }
+    ensures kind { result ≡ host_call number }
+    ensures number { IfSome result IsHostNumber }
+{
+    if number >= 8 && number <= 13 {
+        return None;
+    }
+    Some(ImportKind::Host(number))
 }

@@ -1,7 +1,7 @@
 use crate::fixtures::returning_five;
 use blob_codec::Container;
 use layout::zero_pages_are_least;
-use machine_state::{registers_stay, start_fits, start_is_good};
+use machine_state::{registers_stay, sbrk_is_good, start_fits, start_is_good};
 use page_memory::{Access, pages_are_filled};
 use pvm_machine::Machine;
 use std::test::*;
@@ -12,6 +12,7 @@ fn a_start_has_thirteen_registers_of_which_a_write_changes_one(
 ) -> Result<(), Fail> {
     start_is_good();
     registers_stay();
+    sbrk_is_good();
     let bytes = returning_five();
     let container = Container::read(&bytes)?;
     let mut machine = Machine::start(rt.alloc(), &container, 0, b"abc", 0)?;
