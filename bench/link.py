@@ -38,7 +38,7 @@ from elf import (
 )
 from linked import (
     ADD_IMM, ADD_IMM_8, ENTRY_JUMP, ENTRY_LINE, JUMP_IND, branch_ne_imm, code_line, data_line, jump_table, load_imm,
-    load_imm_jump, number_of,
+    load_imm_jump, number_of, offset_length,
 )
 
 SIZES = (2**16, 2**18, 2**20)
@@ -91,14 +91,21 @@ def calls():
     """The text of groups that call the function behind them. The call of a group names the number of the place at which it
     returns, and the map has a line for each of these."""
     content = object_of_groups((AUIPC_RA, JALR_RA), lambda at: relocation(at, CALL_PLT, LEAF))
-    rest = len(ADD_IMM * 3 + branch_ne_imm(0))
-    leaf = len(ENTRY_JUMP) + sum(len(load_imm_jump(number_of(group), 0)) + rest for group in range(GROUPS))
+    groups, behind = [], 0
+    for group in reversed(range(GROUPS)):
+        for length in range(5):
+            call = load_imm_jump(number_of(group), 0, length)
+            rest = ADD_IMM * 3 + branch_ne_imm(-len(call + ADD_IMM * 3))
+            distance = len(call) + len(rest) + behind
+            if offset_length(distance) <= length:
+                break
+        groups.append((load_imm_jump(number_of(group), distance, length), rest))
+        behind = distance
     code, returns = bytearray(ENTRY_JUMP), []
-    for group in range(GROUPS):
-        call = load_imm_jump(number_of(group), leaf - len(code))
+    for call, rest in reversed(groups):
         code += call
         returns.append(len(code))
-        code += ADD_IMM * 3 + branch_ne_imm(-len(call + ADD_IMM * 3))
+        code += rest
     lines = b"".join(code_line(group, position, 1, GROUP * group + 8) for group, position in enumerate(returns))
     return Text(CALLS, 6 * GROUPS + 1, content, MAP_OF_DATA + lines, jump_table(returns) + code + JUMP_IND)
 

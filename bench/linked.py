@@ -11,9 +11,14 @@ def shortest(number):
     return number.to_bytes(number.bit_length() // 8 + 1, "little")
 
 
-def offset(by):
-    """The bytes of the offset of a jump or a branch."""
-    return by.to_bytes(4, "little", signed=True)
+def offset_length(by):
+    """How many bytes an offset takes at least."""
+    return (by if by > 0 else ~by).bit_length() // 8 + 1 if by else 0
+
+
+def offset(by, length=None):
+    """The bytes of the offset of a jump or a branch: so many, else as few as hold it."""
+    return by.to_bytes(offset_length(by) if length is None else length, "little", signed=True)
 
 
 def load_imm(value):
@@ -21,15 +26,15 @@ def load_imm(value):
     return b"\x33\x07" + shortest(value)
 
 
-def branch_ne_imm(by):
+def branch_ne_imm(by, length=None):
     """BNE_A0 to an offset."""
-    return b"\x52\x07" + offset(by)
+    return b"\x52\x07" + offset(by, length)
 
 
-def load_imm_jump(number, by):
+def load_imm_jump(number, by, length=None):
     """AUIPC_RA and JALR_RA to an offset. They return to the place with this number."""
     link = shortest(number)
-    return bytes((0x50, len(link) << 4)) + link + offset(by)
+    return bytes((0x50, len(link) << 4)) + link + offset(by, length)
 
 
 def number_of(index):

@@ -52,7 +52,7 @@ from elf import (
 )
 from linked import (
     ADD_IMM, ADD_IMM_8, ENTRY_JUMP, ENTRY_LINE, FALLTHROUGH, JUMP_IND, branch_ne_imm, code_line, data_line, jump_table,
-    load_imm, load_imm_jump, number_of,
+    load_imm, load_imm_jump, number_of, offset_length,
 )
 
 RATIO_BAR = 1.5  # time a byte of the largest object over that of the smallest
@@ -125,11 +125,18 @@ def relocations_of(uses, count):
     return entries[: count * len(relocation(0, RELAX, 0))]
 
 
-def code_of(uses, words_named, named, indexes, positions):
+def code_of(uses, words_named, named, indexes, positions, lengths):
     """The code of all texts with these uses, and the position of each plain word and of each place at which a call returns.
     What a call names is among these words, those in the set are named, and the places have these indexes in the address map
-    and these positions, as far as they are known."""
-    code, found = bytearray(ENTRY_JUMP), {}
+    and these positions, as far as they are known. The offsets have these lengths, by their numbers, or are made as much
+    longer as they have to be."""
+    code, found, numbers = bytearray(ENTRY_JUMP), {}, itertools.count()
+
+    def length_of(by):
+        at = next(numbers)
+        lengths[at] = max(lengths.get(at, 0), offset_length(by))
+        return lengths[at]
+
     for text, uses_here in enumerate(uses):
         for at in range(0, 4 * PLAIN, 4):
             code += FALLTHROUGH if at and (text, at) in named else b""
@@ -139,10 +146,13 @@ def code_of(uses, words_named, named, indexes, positions):
         for kind, number in uses_here:
             at += 4 * len(USE_WORDS[kind])
             if kind == CALL_PLT:
-                code += load_imm_jump(number_of(indexes[text, at]), positions.get(words_named[number], 0) - len(code))
+                by = positions.get(words_named[number], len(code)) - positions.get(("call", text, at), len(code))
+                found["call", text, at] = len(code)
+                code += load_imm_jump(number_of(indexes[text, at]), by, length_of(by))
                 found[text, at] = len(code)
             elif kind == BRANCH:
-                code += branch_ne_imm(found[text, 0] - len(code))
+                by = found[text, 0] - len(code)
+                code += branch_ne_imm(by, length_of(by))
             else:
                 code += TABLE_CODE[kind]
         code += JUMP_IND
@@ -165,8 +175,10 @@ def answer_of_case(uses, words_named, addresses, size):
     places = sorted({*returns_in(uses), *words_at})
     indexes = {place: index for index, place in enumerate(places)}
     words_at |= {words_named[number] for uses_here in uses for kind, number in uses_here if kind == CALL_PLT}
-    _, found = code_of(uses, words_named, words_at, indexes, {})
-    code, found = code_of(uses, words_named, words_at, indexes, found)
+    before, found, lengths = None, {}, {}
+    while found != before:
+        before = found
+        code, found = code_of(uses, words_named, words_at, indexes, before, lengths)
     lines = [ENTRY_LINE, data_line(TABLE_ADDRESS, size, section_of(len(uses)))]
     lines += [code_line(index, found[text, at], section_of(text), at) for index, (text, at) in enumerate(places)]
     data = b"".join(number_of(indexes[words_named[number]]).to_bytes(8, "little") for number in addresses)

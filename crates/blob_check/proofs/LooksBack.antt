@@ -7,7 +7,7 @@ use Rattle.pvm_ops.specs.Listing.{Listing, is_stop, is_marked, run_before, skip}
 use Rattle.pvm_ops.proofs.Skipping.{run_before-is}
 use Rattle.blob_check.specs.Starts.{leads, any_below, is_terminator}
 
--- a walk passes at most so many positions
+-- a walk of n positions passes at most n
 run_before-le : (stops : ℕ → Bool) (n at : ℕ) → run_before stops at n ≤ n
 unfolding run_before
 run_before-le stops zero at = omega arith
@@ -82,7 +82,7 @@ unmarked : (code : Listing) (at from : ℕ) → is_marked code from ≡ false �
 unfolding leads
 unmarked code at from e = rw e refl
 
--- one with a mark behind it does not lead past that
+-- one with a mark after it does not lead past that
 behind_mark : (code : Listing) (at from mark : ℕ) → from < mark → mark < at → is_marked code mark ≡ true → leads code at from ≡ false
 behind_mark code at from mark l l' e =
     let stops : is_stop code mark ≡ true = stop-marked code mark (within code mark e) ∙ e in

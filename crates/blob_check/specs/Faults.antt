@@ -36,7 +36,7 @@ faults_at code at =
     followed_by broken (is_no_start code (target_of code at)) (BadTarget at))
     []
 
--- the fault of an end that is open: the last marked position, where no instruction that ends a block stands there
+-- the fault of an open end: the last marked position, if its instruction does not end a block
 abbrev pub faults_of_end : Listing → Option ℕ → List CheckFault
 faults_of_end code (Some at) = broken (not (is_terminator (slice_index code.bytes at))) (OpenEnd at)
 faults_of_end code None = []
@@ -45,7 +45,7 @@ faults_of_end code None = []
 abbrev pub faults_of_entry : Program → ℕ → List CheckFault
 faults_of_entry p entry = broken (not (is_start p.code (slice_index p.table entry))) (BadEntry entry)
 
--- all faults of a program, in the order in which they are told
+-- all faults of a program, in the order in which they are reported
 abbrev pub faults_of : Program → List CheckFault
 faults_of p =
     broken (not (is_start p.code 0)) NoFirst

@@ -12,7 +12,7 @@ terminators = (0, 1) ∷ (40, 40) ∷ (50, 50) ∷ (80, 90) ∷ (170, 175) ∷ (
 abbrev pub is_terminator : ℕ → Bool
 is_terminator op = list_any (λ r. nat_le r.0 op && nat_le op r.1) terminators
 
--- a terminator stands at the position from, and the instruction after it would stand at the other
+-- a terminator is at the first position, and the instruction after it would be at the second
 unfoldable pub leads : Listing → ℕ → ℕ → Bool
 leads code at from = is_marked code from && is_terminator (slice_index code.bytes from) && nat_eq (from + 1 + skip code from) at
 

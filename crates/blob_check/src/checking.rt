@@ -26,7 +26,7 @@ pub enum CheckFault {
     OpenEnd(u64),
 }
 
-/// A program that was checked, in its bytes, which it lends.
+/// A program that was checked, as slices of its bytes.
 #[derive(Debug, Drop)]
 pub struct Checked<'a> {
     program: Program<'a>,

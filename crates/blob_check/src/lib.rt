@@ -1,5 +1,5 @@
-//! Where the blocks of a code start: at position 0 and after each instruction that ends a block, where an instruction
-//! of a known opcode stands.
+//! Where the blocks of a code start: at position 0 and after each instruction that ends a block, if an instruction of a
+//! known opcode is there.
 //!
 //! `specs/Starts.antt` has the definitions.
 #![tactic(auto)]

@@ -25,7 +25,7 @@ pub(crate) fn opcode(code: &Code<'_>, at: u64) -> u8
     code.bytes()[at as usize]
 }
 
-/// Whether an instruction that ends a block stands right before a marked position. Only the nearest mark can be its own.
+/// Whether an instruction that ends a block is right before a marked position. Only the nearest mark can be its own.
 fn follows(code: &Code<'_>, at: u64) -> bool
     requires { is_marked code.now at ≡ true }
     ensures { result ≡ any_below (leads code.now at) at }
@@ -40,5 +40,10 @@ fn follows(code: &Code<'_>, at: u64) -> bool
 pub(crate) fn is_terminator(op: u8) -> bool
     ensures { result ≡ is_terminator op }
 {
-    matches!(op, 0..=1 | 40 | 50 | 80..=90 | 170..=175 | 180)
+    // Most blocks follow a branch, so branches are asked for first.
+    if op >= 80 {
+        op <= 90 || matches!(op, 170..=175 | 180)
+    } else {
+        matches!(op, 0..=1 | 40 | 50)
+    }
 }

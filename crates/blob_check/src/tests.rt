@@ -131,7 +131,7 @@ fn tells_the_first_fault(rt: HostRuntime) {
         &[0, 1, 2, 0x28, 0xff, 1],
         Some(CheckFault::BadTarget(0)),
     );
-    // load_imm_jump r7 0 @4, whose target stands in its second field, and trap
+    // load_imm_jump r7 0 @4, whose target is in its second field, and trap
     answers(
         rt,
         &[0, 1, 4, 0x50, 0x17, 0, 3, 1],

@@ -1,4 +1,4 @@
-//! Checks and disassemblies of whole programs: what is put, byte for byte.
+//! Checks and disassemblies of whole programs: their output, byte for byte.
 
 use crate::fixtures::*;
 use polkatool_cmd::Status;
@@ -12,7 +12,7 @@ const DISASSEMBLE: [&[u8]; 2] = [b"disassemble", b"b"];
 const FIVE_TEXT: &[u8; 110] = b"code 10 table 0 width 1\n00000000 2805000000 jump @5\n\
 00000005 330705 load_imm r7 5\n00000008 3200 jump_ind r0 0\n";
 
-/// Whether the words, with a container of this program, come to the status and leave these bytes on out and err.
+/// Whether the arguments, with a container of this program, give the status and write these bytes to out and err.
 fn answers(
     alloc: Global,
     program: &[u8],
@@ -122,7 +122,7 @@ fn refuses_what_is_no_container(rt: HostRuntime) -> Result<(), Fail> {
     Ok(())
 }
 
-/// A container with data and a call on inner machines, which isn't run yet, is checked and disassembled.
+/// A container with data and a call on inner machines is checked and disassembled.
 #[test]
 fn takes_data_and_every_opcode(rt: HostRuntime) -> Result<(), Fail> {
     let blob = &OF_READ_ONLY_DATA;

@@ -34,8 +34,8 @@ const ASKING: &[u8; 616] = &[
     0, 0, 0, 0, 0, 0, 0, 0x01, 0, 0, 0, 0, 0, 0, 0, 0, 0, 0, 0, 0, 0, 0, 0,
 ];
 
-/// The words behind `exec`, the file of replies, the status, and how out and err end.
-const EXECS: [(&[&[u8]], &[u8], Status, &[u8], &[u8]); 7] = [
+/// The arguments after `exec`, the file of replies, the status, and how out and err end.
+const EXECS: [(&[&[u8]], &[u8], Status, &[u8], &[u8]); 8] = [
     (
         &[b"o", b"-i", b"ask=7"],
         b"",
@@ -74,9 +74,16 @@ const EXECS: [(&[&[u8]], &[u8], Status, &[u8], &[u8]); 7] = [
     (
         &[b"o", b"-i", b"ask=9"],
         b"",
-        Status::Usage,
+        Status::Done,
+        b"\nhalt output=\ngas left=9999995\n",
         b"",
-        b"polkatool: bad command line\n",
+    ),
+    (
+        &[b"--replies", b"r", b"o", b"-i", b"ask=12"],
+        b"r7=0 r8=0\n",
+        Status::Panicked,
+        b"\npanic\ngas left=9999996\n",
+        b"",
     ),
     (
         &[b"o", b"-o", b"b"],
@@ -95,7 +102,7 @@ fn links_and_runs(rt: HostRuntime) -> Result<(), Fail> {
     Ok(())
 }
 
-/// Whether an exec with these words comes to the status, with these ends of out and err.
+/// Whether an exec with these arguments gives the status, with these ends of out and err.
 fn ends_so(
     alloc: Global,
     words: &[&[u8]],

@@ -122,14 +122,14 @@ pub(crate) fn outside_of(alloc: Global, blob: &[u8]) -> Result<Outside, AllocErr
     })
 }
 
-/// A container with a stack of 65,536 bytes and these bytes behind it, of which so many are said to be its program.
+/// A container with a stack of 65,536 bytes, whose program has the length `len` and these bytes.
 pub(crate) fn blob(alloc: Global, len: u8, program: &[u8]) -> Result<Vec<u8>, AllocError> {
     let mut blob = Vec::from_slice(alloc, &[0, 0, 0, 0, 0, 0, 0, 0, 0, 0, 1, len, 0, 0, 0])?;
     blob.extend_from_slice(program)?;
     Ok(blob)
 }
 
-/// Whether the words, with this blob, come to the status and leave these bytes on out and err.
+/// Whether the arguments, with this blob, give the status and write these bytes to out and err.
 pub(crate) fn runs_to(
     alloc: Global,
     blob: &[u8],
@@ -150,7 +150,7 @@ pub(crate) fn holds(outside: &Outside, container: &[u8], out: &[u8], err: &[u8])
         && outside.err.bytes() == err
 }
 
-/// Whether the words, with this object, come to the status and leave these bytes.
+/// Whether the arguments, with this object, give the status and write these bytes.
 pub(crate) fn comes_to(
     alloc: Global,
     object: &[u8],
@@ -165,7 +165,7 @@ pub(crate) fn comes_to(
     Ok(answer == status && holds(&outside, container, out, err))
 }
 
-/// Whether words are a faulty command line.
+/// Whether arguments are a usage error.
 pub(crate) fn is_faulty(alloc: Global, line: &[&[u8]]) -> Result<bool, AllocError> {
     comes_to(alloc, b"", line, Status::Usage, b"", b"", USAGE)
 }

@@ -20,9 +20,9 @@ const OF_TWO_OBJECTS: [u8; 41] = [
 
 /// The container of the object that loops: the entry's jump, `add_imm r7 r7 -1`, `branch_ne_imm r7 0` to it, and the trap
 /// at the end.
-const OF_A_LOOP: [u8; 35] = [
-    0, 0, 0, 0, 0, 0, 0, 0, 0, 0, 1, 0x14, 0, 0, 0, 0, 0x01, 0x0f, 0x28, 0x05, 0, 0, 0, 0x95, 0x77,
-    0xff, 0x52, 0x07, 0xfd, 0xff, 0xff, 0xff, 0, 0x21, 0x41,
+const OF_A_LOOP: [u8; 32] = [
+    0, 0, 0, 0, 0, 0, 0, 0, 0, 0, 1, 0x11, 0, 0, 0, 0, 0x01, 0x0c, 0x28, 0x05, 0, 0, 0, 0x95, 0x77,
+    0xff, 0x52, 0x07, 0xfd, 0, 0x21, 0x09,
 ];
 
 const MAP: &[u8; 22] = b"entry 0 00000005 main\n";
@@ -126,7 +126,7 @@ fn links_an_object(rt: HostRuntime) -> Result<(), Fail> {
     Ok(())
 }
 
-/// A weak definition of `main` gives way to a global one: both entries lead to the second object's text, behind the first's.
+/// A weak definition of `main` gives way to a global one: both entries lead to the second object's text, after the first's.
 #[test]
 fn links_two_objects(rt: HostRuntime) -> Result<(), Fail> {
     let object = object(rt.alloc())?;
@@ -186,7 +186,7 @@ fn links_an_object_of_no_text(rt: HostRuntime) -> Result<(), Fail> {
     Ok(())
 }
 
-/// The branch leads to the entry's block, and behind it the machine runs into the trap at the end.
+/// The branch leads to the entry's block, and after it the machine runs into the trap at the end.
 #[test]
 fn links_an_object_that_loops(rt: HostRuntime) -> Result<(), Fail> {
     let object = object_of_a_loop(rt.alloc())?;

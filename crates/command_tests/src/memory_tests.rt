@@ -1,4 +1,4 @@
-//! Runs with arguments, data, loads and stores: what is put, byte for byte.
+//! Runs with arguments, data, loads and stores: their output, byte for byte.
 
 use crate::fixtures::*;
 use outside::MemorySink;
@@ -9,7 +9,7 @@ use std::test::Fail;
 /// A program whose output is its argument: its code is `jump_ind ra, 0`.
 const ECHO: &[u8; 6] = b"\x00\x01\x02\x32\0\x01";
 
-/// A program whose output is the last 8,192 bytes of the stack, the first of which is that of the argument: its code is
+/// A program whose output is the last 8,192 bytes of the stack, and whose first byte is that of the argument: its code is
 /// `load_ind_u8 a2, a0, 0`, `store_ind_u8 a2, sp, -8192`, `add_imm_64 a0, sp, -8192`, `load_imm a1, 8192` and
 /// `jump_ind ra, 0`.
 const STORES: [u8; 21] = [
@@ -42,7 +42,7 @@ fn ends_with(
     Ok(answer == status && outside.out.bytes() == out && outside.err.bytes().is_empty())
 }
 
-/// The transcript of a halt with the output that these digits spell, and then so many zero bytes.
+/// The transcript of a halt with the output that these digits spell, followed by `zeros` zero bytes.
 fn transcript(
     alloc: Global,
     digits: &[u8],
@@ -60,7 +60,7 @@ fn transcript(
     Ok(text)
 }
 
-/// The digits of the numbers from 0 on, so many of them, in sixteen bits each.
+/// The digits of the first `count` numbers, in sixteen bits each.
 fn digits_of_numbers(alloc: Global, count: u16) -> Result<Vec<u8>, AllocError> {
     let mut digits = Vec::new(alloc);
     for number in 0..count {

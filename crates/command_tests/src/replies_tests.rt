@@ -57,7 +57,7 @@ fn answers_calls_by_replies(rt: HostRuntime) -> Result<(), Fail> {
     Ok(())
 }
 
-/// Whether a run with these replies comes to the status, with these ends of out and err.
+/// Whether a run with these replies gives the status, with these ends of out and err.
 fn ends_so(
     alloc: Global,
     name: &[u8],

@@ -1,4 +1,4 @@
-//! Runs of whole programs: what is put, byte for byte.
+//! Runs of whole programs: their output, byte for byte.
 
 use crate::fixtures::*;
 use polkatool_cmd::Status;
@@ -15,7 +15,7 @@ const OF_LONG_OUTPUT: [u8; 30] = [
 /// A program whose code is `load_imm a0, 5` and, at position 3, `ecalli 8`.
 const OF_A_CALL: &[u8; 9] = b"\x00\x01\x05\x33\x07\x05\x0a\x08\x09";
 
-/// A program whose code is `load_imm a0, 5` and, at position 3, `sbrk a0, a0`. Behind it the code ends.
+/// A program whose code is `load_imm a0, 5` and, at position 3, `sbrk a0, a0`. After it the code ends.
 const OF_GROWTH: &[u8; 9] = b"\x00\x01\x05\x33\x07\x05\x65\x77\x09";
 
 /// Whether these words run the program to the end with this transcript.
@@ -36,7 +36,7 @@ fn is_refused(alloc: Global, blob: &[u8], line: &[u8]) -> Result<bool, AllocErro
     runs_to(alloc, blob, &[b"run", b"b"], Status::Refused, b"", line)
 }
 
-/// Whether the run of these bytes, of which so many are said to be a program, is refused with this line.
+/// Whether the run of a container whose program has this length and these bytes is refused with this line.
 fn is_program_refused(
     alloc: Global,
     len: u8,
@@ -193,7 +193,7 @@ fn runs_out_of_gas_at_once(rt: HostRuntime) -> Result<(), Fail> {
     Ok(())
 }
 
-/// A program with a jump table runs, and one that comes to an opcode that there isn't panics there.
+/// A program with a jump table runs, and one that reaches an unknown opcode panics there.
 #[test]
 fn runs_other_programs(rt: HostRuntime) -> Result<(), Fail> {
     assert!(rt;
@@ -252,23 +252,21 @@ fn refuses_what_is_no_container(rt: HostRuntime) -> Result<(), Fail> {
     Ok(())
 }
 
-/// A call on inner machines, which isn't supported yet, is reported where it stands, before an entry that isn't there. Data are no fault.
+/// The line of a call of `machine` with a length in a1.
+const OF_MACHINE: [&[u8]; 2] = [
+    b"call 8 00000000ffff0000 00000000fefe0000 0000000000000000 0000000000000000 0000000000000000 0000000000000000 0000000000000000 0000000000000005 0000000000000000 0000000000000000 0000000000000000 0000000000000000 0000000000000000\npanic\ngas left=7\n",
+    b"call 8 00000000ffff0000 00000000fefe0000 0000000000000000 0000000000000000 0000000000000000 0000000000000000 0000000000000000 0000000000000005 0000000000000001 0000000000000000 0000000000000000 0000000000000000 0000000000000000\npanic\ngas left=8\n",
+];
+
+/// A call on inner machines is served after its line. No bytes are no program, so that the run goes on to its end; bytes
+/// that can't be read make the call itself panic.
 #[test]
-fn refuses_what_is_not_built(rt: HostRuntime) -> Result<(), Fail> {
-    let call = blob(rt.alloc(), 9, OF_A_CALL)?;
-    let line = b"refused 63 NotBuilt object=0 section=0 offset=3\n";
-    assert!(rt; is_refused(rt.alloc(), &call, line)?);
-    assert!(rt; is_refused(rt.alloc(), &OF_READ_ONLY_DATA, line)?);
-    assert!(rt;
-        runs_to(
-            rt.alloc(),
-            &call,
-            &[b"run", b"--entry", b"1", b"b"],
-            Status::Refused,
-            b"",
-            line
-        )?
-    );
+fn serves_calls_on_inner_machines(rt: HostRuntime) -> Result<(), Fail> {
+    let rows: [(&[u8], &[u8]); 2] = [(b"", OF_MACHINE[0]), (b"00", OF_MACHINE[1])];
+    for (argument, out) in rows {
+        let line: [&[u8]; 6] = [b"run", b"--gas", b"10", b"--arg", argument, b"b"];
+        assert!(rt; ends_with(rt.alloc(), OF_A_CALL, &line, Status::Panicked, out)?);
+    }
     Ok(())
 }
 

@@ -1,5 +1,5 @@
-//! The words of a link: which are one, and what they ask for. Each link names an object that isn't there, so that words
-//! that are a link come to a file fault.
+//! The arguments of a link: which are accepted, and what they ask for. Each link names an object that isn't there, so that
+//! accepted arguments give a file fault.
 
 use crate::fixtures::*;
 use polkatool_cmd::{Status, Words, polkatool};
@@ -24,7 +24,7 @@ fn push_all(words: &mut Words, line: &[&[u8]]) -> Result<(), AllocError> {
     Ok(())
 }
 
-/// Words that are a link, and behind them so many pairs of an option and its value.
+/// The arguments of a link, followed by `count` pairs of an option and its value.
 fn plain_and(alloc: Global, count: u16, option: &[u8]) -> Result<Words, AllocError> {
     let mut words = Words::new(alloc);
     push_all(&mut words, &[b"link", b"-o", b"b", b"p"])?;
@@ -35,7 +35,7 @@ fn plain_and(alloc: Global, count: u16, option: &[u8]) -> Result<Words, AllocErr
     Ok(words)
 }
 
-/// Words that link so many objects.
+/// The arguments of a link of `count` objects.
 fn of_objects(alloc: Global, count: u16) -> Result<Words, AllocError> {
     let mut words = Words::new(alloc);
     push_all(&mut words, &[b"link", b"-o", b"b"])?;
@@ -111,7 +111,7 @@ fn refuses_other_names(rt: HostRuntime) -> Result<(), Fail> {
     Ok(())
 }
 
-/// Behind the words of a link.
+/// After the arguments of a link.
 #[test]
 fn refuses_other_values(rt: HostRuntime) -> Result<(), Fail> {
     let pairs: [(&[u8], &[u8]); 17] = [
@@ -156,7 +156,7 @@ fn counts_objects_entries_and_imports(rt: HostRuntime) -> Result<(), Fail> {
     Ok(())
 }
 
-/// The stack stands in bytes 8 to 10 of the container.
+/// The stack size is in bytes 8 to 10 of the container.
 #[test]
 fn passes_the_stack_on(rt: HostRuntime) -> Result<(), Fail> {
     let rows: [(&[u8], &[u8]); 2] = [(b"0", &[0, 0, 0]), (b"16777215", &[0xff, 0xff, 0xff])];
@@ -170,7 +170,7 @@ fn passes_the_stack_on(rt: HostRuntime) -> Result<(), Fail> {
     Ok(())
 }
 
-/// The first entry that there isn't is told by its number.
+/// The first entry that isn't defined is reported by its number.
 #[test]
 fn passes_entries_on_in_order(rt: HostRuntime) -> Result<(), Fail> {
     let object = object(rt.alloc())?;

@@ -79,7 +79,7 @@ name_end-found table at n k e =
     let same = found_in (λ x. x == 0) n (drop at table) here.1 in
     omega (arith, same, here.0)
 
--- where it has none, the name ends where the one behind the part does
+-- if it has none, the name ends where the one after the part does
 pub name_end-past : (table : List ℕ) (at to n : ℕ) → at + n ≡ to → to ≤ length table → position (λ x. x == 0) (take n (drop at table)) ≡ None → name_end table to ≡ name_end table at
 unfolding name_end
 name_end-past table at to n is le e =

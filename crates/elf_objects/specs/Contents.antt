@@ -13,7 +13,7 @@ lies_past b h = not (h.size == 0) && nat_lt (length b) (h.offset + h.size)
 unfoldable pub bytes_of : List ℕ → SectionHeader → List ℕ
 bytes_of b h = cond (lies_past b h) [] (take h.size (drop h.offset b))
 
--- a name begins at a place of a string table: a 00 stands there or behind it
+-- a name begins at an index of a string table: there is a 00 there or after it
 unfoldable pub has_name : List ℕ → ℕ → Bool
 has_name table at = list_any (λ x. x == 0) (drop at table)
 
@@ -29,7 +29,7 @@ name_begins table at word = has_name table at && starts_with nat_eq (drop at tab
 abbrev pub section_names : List ℕ → List ℕ
 section_names b = bytes_of b (header_of b (name_section b))
 
--- names begin below a place of a string table, the one behind its last 00
+-- names begin below an index of a string table, the one after its last 00
 pub record EndsNames (table : List ℕ) (end : ℕ) : Type 0 where
   pub within : end ≤ length table
   pub last : (at : ℕ) → has_name table at ≡ nat_lt at end

@@ -1,4 +1,4 @@
--- The faults that are present in the bytes b of a file, in the order in which the first of them is told: those of the
+-- The faults that are present in the bytes b of a file, in the order in which they are reported: those of the
 -- header, then of each section its table (4), its form (8), its name and those of its symbols (5), its symbols (6) and
 -- its relocations (7).
 use Rattle.std.specs.Prelude.{ℕ, Bool, cond, ◌||◌, List, []}

@@ -1,4 +1,4 @@
--- The numbers in a file, which stand with their lowest byte first (gABI, "Data Encoding").
+-- The numbers in a file, in little-endian order (gABI, "Data Encoding").
 use Rattle.std.specs.Prelude.{ℕ, List, take, drop}
 use Rattle.numbers.specs.Bytes.{number_of}
 

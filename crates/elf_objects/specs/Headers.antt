@@ -23,7 +23,7 @@ section_count b = word_16 b 60
 abbrev pub name_section : List ℕ → ℕ
 name_section b = word_16 b 62
 
--- the section header at an offset; the address, which stands at 16, has no meaning in an object
+-- the section header at an offset; the address, at 16, has no meaning in an object
 unfoldable pub header_in : List ℕ → ℕ → SectionHeader
 header_in b at =
     record {

@@ -1,5 +1,5 @@
--- The index of the relocations in a file b: for each section its RELA sections, with how many of its relocations stand
--- before each of them.
+-- The index of the relocations in a file b: for each section its RELA sections, each with the number of relocations
+-- before it.
 use Rattle.std.specs.Prelude.{◌≡◌, ◌≢◌, ◌≤◌, ◌<◌, ◌+◌, ◌-◌, ◌*◌, Some, ℕ, zero, suc, true, cond, List, [], ◌∷◌, ◌++◌, length, slice_index_or, slice_get}
 use Rattle.elf_objects.specs.Headers.{header_of, section_count}
 use Rattle.elf_objects.specs.Contents.{bytes_of, section_names}
@@ -47,7 +47,7 @@ pub record IsIndexed (b : List ℕ) (rows : List Row) (r : ℕ) : Type 0 where
       s < section_count b →
       HoldsRow (slice_index_or rows s d) (parts_below b s r) (length (relocations_below b s r))
 
--- part i begins at or before a place, and the next part, if there is one, behind it
+-- part i begins at or before an index, and the next part, if there is one, after it
 pub record HoldsPart (parts : List Part) (at i : ℕ) : Type 0 where
   pub within : i < length parts
   pub begins : (slice_index_or parts i no_part).before ≤ at

@@ -48,7 +48,7 @@ relocations_in (Some section) = section.relocations
 abbrev pub relocations_of : Object → ℕ → List Relocation
 relocations_of object at = relocations_in (slice_get object.sections at)
 
--- what is lent of a section is what the section is
+-- the borrowed parts of a section are those of the section
 pub record ShowsSection (lent : lent_section.Section) (section : Section) : Type 0 where
   pub name : lent.name.now ≡ section.name
   pub kind : lent.kind ≡ section.kind
@@ -56,7 +56,7 @@ pub record ShowsSection (lent : lent_section.Section) (section : Section) : Type
   pub align : lent.align ≡ section.align
   pub content : lent.content.now ≡ section.content
 
--- what is lent of a symbol is what the symbol is
+-- the borrowed parts of a symbol are those of the symbol
 pub record ShowsSymbol (lent : lent_symbol.Symbol) (symbol : Symbol) : Type 0 where
   pub name : lent.name.now ≡ symbol.name
   pub binding : lent.binding ≡ symbol.binding

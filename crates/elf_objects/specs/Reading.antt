@@ -17,7 +17,7 @@ object_of file = if is_none (first_in (faults_of file)) then Some (object_in fil
 abbrev pub in_object : ℕ → Refusal → Fault
 in_object object r = record { code = r.code; object = object; section = r.section; offset = r.offset }
 
--- the first fault that is present is told, and then the file is no object; memory may be refused at any time
+-- the first fault that is present is reported, and then the file is no object; an allocation may fail at any time
 abbrev pub Refuses : ObjectFault → List ℕ → ℕ → Type 0
 Refuses (Bad fault) file object =
     (object_of file ≡ None) × IsSomeAnd (first_in (faults_of file)) (λ first. fault ≡ in_object object first)

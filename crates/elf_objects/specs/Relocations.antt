@@ -30,7 +30,7 @@ is_rela b r = let h = header_of b r in h.kind == 4 && nat_lt h.info (section_cou
 abbrev pub is_rela_of : List ℕ → ℕ → ℕ → Bool
 is_rela_of b s r = is_rela b r && (header_of b r).info == s
 
--- how many relocations stand in a RELA section
+-- the number of relocations in a RELA section
 abbrev pub entry_count : List ℕ → ℕ → ℕ
 entry_count b r = length (bytes_of b (header_of b r)) / 24
 

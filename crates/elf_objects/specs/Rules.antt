@@ -45,7 +45,7 @@ is_string_table b s = nat_lt s (section_count b) && (header_of b s).kind == 3
 abbrev pub has_entries : SectionHeader → Bool
 has_entries h = h.entry_size == 24 && h.size % 24 == 0
 
--- 4 BadTable, in a SYMTAB: it has no STRTAB, no whole entries, or stands behind another SYMTAB
+-- 4 BadTable, in a SYMTAB: it has no STRTAB, no whole entries, or comes after another SYMTAB
 unfoldable pub is_bad_symbol_table : List ℕ → ℕ → SectionHeader → Bool
 is_bad_symbol_table b s h = not (is_string_table b h.link) || not (has_entries h) || not (is_symbol_table b s)
 
@@ -83,14 +83,14 @@ is_unknown_form h =
     || (h.kind == 8 && not (has_flag h.flags 1))
 
 -- 8 UnsupportedSection: one of type REL 9, GROUP 17 or SYMTAB_SHNDX 18; or with TLS; or with ALLOC and of no form that
--- is known, unless it tells how to unwind
+-- is known, unless it has unwind information
 unfoldable pub is_unsupported : List ℕ → ℕ → Bool
 is_unsupported b s =
     let h = header_of b s in
     h.kind == 9 || h.kind == 17 || h.kind == 18 || has_flag h.flags 0x400
     || (has_flag h.flags 2 && not (is_unwinding b s) && is_unknown_form h)
 
--- 5 BadName: among the names no 00 stands at or behind the place of a section's name
+-- 5 BadName: among the names there is no 00 at or after the index of a section's name
 abbrev pub is_section_unnamed : List ℕ → ℕ → Bool
 is_section_unnamed b s = not (has_name (section_names b) (header_of b s).name)
 

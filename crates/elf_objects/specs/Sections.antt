@@ -11,11 +11,11 @@ use Rattle.elf_objects.specs.declared.parts.SectionKind.TheVariants.{Code, ReadO
 abbrev pub has_flag : ℕ → ℕ → Bool
 has_flag flags flag = not (bit_and flags flag == 0)
 
--- the section tells how to unwind the stack: its name begins with .eh_frame
+-- the section has unwind information: its name begins with .eh_frame
 unfoldable pub is_unwinding : List ℕ → ℕ → Bool
 is_unwinding b s = name_begins (section_names b) (header_of b s).name (codes ".eh_frame")
 
--- the section takes part in the program: it has ALLOC and the type PROGBITS or NOBITS, and tells nothing of unwinding
+-- the section is loaded: it has ALLOC and the type PROGBITS or NOBITS, and no unwind information
 unfoldable pub is_loaded : List ℕ → ℕ → Bool
 is_loaded b s =
     let h = header_of b s in

@@ -3,16 +3,18 @@ ghost use Rattle.elf_objects.specs.declared.fault.ObjectFault.TheVariants.{Memor
 
 use std::alloc::AllocError;
 
-/// Why a link is refused, and where.
+/// Why a command is refused, and where. `docs/faults.md` says what the fields hold for each code.
 #[derive(Clone, Copy, Debug, PartialEq, Eq)]
 pub struct Fault {
-    /// The number of the fault's kind.
+    /// The number of the kind of fault, from 1 to 61.
     pub code: u8,
-    /// The object's number in the order of the link, from 0.
+    /// The number, from 0, of the object in the order of the link, of an entry, or of a file in the order of reading. 0 for
+    /// a fault of none of these.
     pub object: u32,
-    /// The section's number in the object, from 0.
+    /// The number of the section in the object, from 0. 0 for a fault of no section.
     pub section: u32,
-    /// A number in the section: an offset in bytes, or the number of a symbol or relocation.
+    /// An offset in bytes in the section or the file, or the number of a symbol, relocation, entry or line. 0 for a fault
+    /// of none of these.
     pub offset: u64,
 }
 
@@ -40,15 +42,12 @@ pub const BAD_RELOCATION: u8 = 7;
 /// The code of a section of a form that isn't supported.
 pub const UNSUPPORTED_SECTION: u8 = 8;
 
-/// The code of a form that isn't built yet.
-pub const NOT_BUILT: u8 = 63;
-
 /// Why an object isn't read.
 #[derive(Clone, Copy, Debug, PartialEq, Eq)]
 pub enum ObjectFault {
     /// The bytes are no object that is accepted.
     Bad(Fault),
-    /// Memory was refused.
+    /// An allocation failed.
     Memory,
 }
 

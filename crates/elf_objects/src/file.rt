@@ -27,7 +27,7 @@ const IDENTIFICATION: &[u8; 7] = b"\x7fELF\x02\x01\x01";
 /// The length of a file header in bytes.
 const FILE_HEADER_LEN: usize = 64;
 
-// Where fields stand in a file header, in bytes.
+// The offsets of fields in a file header, in bytes.
 const TYPE_AT: usize = 16;
 
 const MACHINE_AT: usize = 18;

@@ -1,8 +1,7 @@
 //! Relocatable objects of ELF64 (System V gABI, "Object Files"; RISC-V ELF psABI).
 //!
-//! What an object is stands in `specs/Objects.antt`, and which object the bytes of a file are in
-//! `specs/FileObject.antt`. A file that breaks a rule of `specs/Rules.antt` is refused with the first of its faults in
-//! the order of `specs/Faults.antt`.
+//! `specs/Objects.antt` says what an object is, and `specs/FileObject.antt` which object the bytes of a file are. A file
+//! that breaks a rule of `specs/Rules.antt` is refused with the first of its faults in the order of `specs/Faults.antt`.
 #![tactic(auto)]
 
 mod fault;
@@ -25,7 +24,7 @@ mod symbol_rules;
 mod tables;
 
 pub use fault::{
-    BAD_NAME, BAD_RELOCATION, BAD_SYMBOL, BAD_TABLE, Fault, NOT_BUILT, NOT_ELF, ObjectFault,
+    BAD_NAME, BAD_RELOCATION, BAD_SYMBOL, BAD_TABLE, Fault, NOT_ELF, ObjectFault,
     UNSUPPORTED_SECTION, WRONG_FLAGS, WRONG_KIND,
 };
 pub use object::Object;

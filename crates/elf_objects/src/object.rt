@@ -9,7 +9,7 @@ use crate::sound_file::SoundFile;
 use std::alloc::Global;
 use std::marker::Model;
 
-/// A relocatable object, which lends its parts from the bytes of its file.
+/// A relocatable object, whose parts are slices of the bytes of its file.
 #[derive(Drop)]
 pub struct Object<'a> {
     file: SoundFile<'a>,

@@ -31,7 +31,7 @@ impl<'a> Objects<'a> {
         }
     }
 
-    /// Adds an object at the end. Where memory is refused, the list stays as it was and the object is dropped.
+    /// Adds an object at the end. If an allocation fails, the list is as before and the object is dropped.
     pub fn push(&mut self, object: Object<'a>) -> Result<(), AllocError>
         requires { length self.old < 1024 }
         ensures ok { OnOk result (self.new ≡ self.old ++ object.entry ∷ []) }

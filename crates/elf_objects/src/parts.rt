@@ -25,7 +25,7 @@ impl SectionKind {
     }
 }
 
-/// A section, which lends its name and content from the file (gABI, "Sections").
+/// A section, whose name and content are slices of the file (gABI, "Sections").
 #[derive(Clone, Copy, Debug)]
 pub struct Section<'a> {
     pub name: &'a [u8],
@@ -56,7 +56,7 @@ pub enum SymbolIndex {
     Section(u32),
 }
 
-/// A symbol, which lends its name from the file (gABI, "Symbol Table").
+/// A symbol, whose name is a slice of the file (gABI, "Symbol Table").
 #[derive(Clone, Copy, Debug)]
 pub struct Symbol<'a> {
     pub name: &'a [u8],

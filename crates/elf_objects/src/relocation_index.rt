@@ -3,12 +3,12 @@ ghost use Rattle.elf_objects.specs.Index.{IsEmptyAt, AddsPart, HoldsPart, no_par
 
 use std::alloc::{AllocError, Global};
 
-/// A RELA section, and how many relocations of its target stand in those before it.
+/// A RELA section, and the number of relocations of its target in those before it.
 #[derive(Clone, Copy, Debug)]
 pub struct Part {
     /// The number of the RELA section.
     pub section: u32,
-    /// How many relocations stand before it.
+    /// The number of relocations before it.
     pub before: u32,
 }
 
@@ -33,7 +33,7 @@ pub fn empty_rows(alloc: Global, count: u32) -> Result<Vec<Row>, AllocError>
     Ok(rows)
 }
 
-/// Adds a RELA section with so many entries at the end of a row. A row of 2^32 entries or more is refused as memory is.
+/// Adds a RELA section with `entries` relocations at the end of a row. A row of 2^32 entries or more is an `AllocError`.
 pub fn add_part(
     rows: &mut Vec<Row>,
     target: u32,

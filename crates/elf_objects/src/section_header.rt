@@ -7,7 +7,7 @@ use crate::little_endian::{read_32, read_64};
 /// The length of a section header in bytes.
 pub const HEADER_LEN: usize = 64;
 
-// The types of sections that are told apart.
+// The types of sections that matter here.
 pub const NULL: u32 = 0;
 
 pub const PROGBITS: u32 = 1;

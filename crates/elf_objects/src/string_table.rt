@@ -1,7 +1,7 @@
 ghost use Rattle.std.specs.Prelude.{◌≡◌};
 ghost use Rattle.elf_objects.specs.Contents.{has_name, name_begins, EndsNames};
 
-/// A string table, with the place behind its last 00: names begin below it (gABI, "String Table").
+/// A string table, with the index after its last 00: names begin below it (gABI, "String Table").
 #[derive(Clone, Copy, Debug)]
 pub struct StringTable<'a> {
     pub bytes: &'a [u8],
@@ -10,7 +10,7 @@ pub struct StringTable<'a> {
 }
 
 impl<'a> StringTable<'a> {
-    /// The table of these bytes, of which those behind the last 00 are looked at.
+    /// The table of these bytes. Its time grows with the number of bytes after the last 00.
     pub fn new(bytes: &'a [u8]) -> StringTable<'a>
         ensures { result.bytes.now ≡ bytes.now }
     {

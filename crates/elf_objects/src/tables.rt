@@ -16,7 +16,7 @@ use crate::section_header::{
 use crate::string_table::StringTable;
 use crate::symbol_entry::{SYMBOL_LEN, SymbolEntry, binding_of, index_of, read_symbol};
 
-/// What the names of sections that tell how to unwind the stack begin with.
+/// The prefix of the names of sections with unwind information.
 const UNWINDING: &[u8; 9] = b".eh_frame";
 
 /// A file with its tables at hand: the names of sections, the symbols and their names. Where a table isn't there, or

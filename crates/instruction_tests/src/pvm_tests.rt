@@ -400,7 +400,7 @@ fn spells_offsets(rt: HostRuntime) -> Result<(), Fail> {
     Ok(())
 }
 
-/// What stands at a position of a code with a mask.
+/// Compares the instruction at a position of a code with a mask.
 fn stands(rt: &impl Abort, bytes: &[u8], mask: &[u8], at: u64, instr: Instr, next: u64)
     requires { len_of mask.now ≡ (len_of bytes.now + 7) / 8 }
 {

@@ -12,7 +12,7 @@ use Rattle.pvm_ops.specs.Opcodes.{form_of}
 use Rattle.pvm_ops.specs.Offsets.{has_offset}
 use Rattle.pvm_ops.specs.Spelling.{spelling}
 use Rattle.pvm_ops.specs.BlockList.{Block, BlockList}
-use Rattle.jump_table.specs.Assembly.{Member, offset_len, entry_len, members, groups, members_of, instrs_of, first_of, words, instr_position, start_of, offset, placed_instr, placed, four_each}
+use Rattle.jump_table.specs.Assembly.{Member, entry_len, members, groups, members_of, instrs_of, first_of, words, instr_position, start_of, offset, placed_instr, placed}
 use Rattle.jump_table.specs.Laws.{is_some, HasNoOffset, IsBlock}
 use Rattle.jump_table.proofs.Offsets.{length-with}
 
@@ -47,13 +47,13 @@ groups_get [] (c ∷ bs) (suc k) b e = groups_get [] bs k b e
 groups_get (len ∷ lengths) (c ∷ bs) zero b e = let same : c ≡ b = cc in rw same refl
 groups_get (len ∷ lengths) (c ∷ bs) (suc k) b e = groups_get lengths bs k b e
 
--- the k-th of what stands at a place stands k places behind it
+-- the k-th element of a list at an index is k indices after it
 inside : {A : Type 0} → (xs : List A) (at : ℕ) (ws : List A) (k : ℕ) (x : A) → HasAt xs at ws → slice_get ws k ≡ Some x → slice_get xs (at + k) ≡ Some x
 inside xs at [] k x h e = absurd cc
 inside xs at (w ∷ ws) zero x h e = let n : at + 0 ≡ at = omega arith in rw n (h.0 ∙ e)
 inside xs at (w ∷ ws) (suc k) x h e = let n : at + suc k ≡ at + 1 + k = omega arith in rw n (inside xs (at + 1) ws k x h.1 e)
 
--- an instruction of a block stands that far behind the block's first
+-- the k-th instruction of a block is k numbers after the block's first
 pub block_member : (lengths : List ℕ) (list : BlockList) (block : ℕ) (b : Block) (k : ℕ) (i : Instr) → slice_get list.blocks block ≡ Some b → slice_get b.instrs k ≡ Some i → slice_get (members_of lengths list) (first_of list block + k) ≡ Some (record { instr = i; len = slice_index lengths block; target = b.target })
 block_member lengths list block b k i e f =
     let make : Instr → Member = λ i. record { instr = i; len = slice_index lengths block; target = b.target } in
@@ -66,7 +66,7 @@ block_member lengths list block b k i e f =
 pub member_instr : (lengths : List ℕ) (list : BlockList) (number : ℕ) (m : Member) → slice_get (members_of lengths list) number ≡ Some m → slice_get (instrs_of list) number ≡ Some m.instr
 member_instr lengths list number m e = ap (λ l. slice_get l number) (sym (instrs_same lengths list.blocks)) ∙ slice_get-map (λ (m : Member). m.instr) (members_of lengths list) number ∙ ap (option_map (λ (m : Member). m.instr)) e
 
--- the next block begins behind a block's instructions
+-- the next block begins after a block's instructions
 pub first_next : (list : BlockList) (block : ℕ) (b : Block) → slice_get list.blocks block ≡ Some b → first_of list (block + 1) ≡ first_of list block + length b.instrs
 first_next list block b e = position_next (map (λ b. b.instrs) list.blocks) block b.instrs (slice_get-map _ list.blocks block ∙ ap (option_map (λ b. b.instrs)) e)
 
@@ -74,7 +74,7 @@ first_next list block b e = position_next (map (λ b. b.instrs) list.blocks) blo
 pub block_length : (b : Block) (e : IsBlock b) → length b.instrs ≡ length e.front + 1
 block_length b e = ap length e.is ∙ length-append e.front (e.last ∷ [])
 
--- the last stands behind those in front
+-- the last is after those before it
 pub block_last : (b : Block) (e : IsBlock b) → slice_get b.instrs (length e.front) ≡ Some e.last
 block_last b e =
     let n = block_length b e in
@@ -82,14 +82,14 @@ block_last b e =
     slice_get-get_or b.instrs (length e.front) e.last within
     ∙ ap Some (ap (λ is. get_or is (length e.front) e.last) e.is ∙ get_or-append_seam e.front e.last [] e.last)
 
--- the first block begins behind the jumps of the entries
+-- the first block begins after the jumps of the entries
 pub start_first : (lengths : List ℕ) (list : BlockList) → start_of lengths list 0 ≡ entry_len * length list.entries
 start_first lengths list =
     let block = position_first (map (λ b. b.instrs) list.blocks) in
     let instr = position_first (words (members_of lengths list)) in
     rw block (omega arith)
 
--- what holds of each of two lists holds of each of both, one behind the other
+-- what holds of each element of two lists holds of each of their concatenation
 pub all_append : {A : Type 0} (P : A → Type 0) (xs ys : List A) → AllByRecursion P xs → AllByRecursion P ys → AllByRecursion P (xs ++ ys)
 all_append P [] ys h g = g
 all_append P (x ∷ xs) ys h g = (h.0, all_append P xs ys h.1 g)
@@ -151,7 +151,7 @@ pub placed_length : (lengths : List ℕ) (list : BlockList) (number : ℕ) (targ
 placed_length lengths list number None i len = refl
 placed_length lengths list number (Some target) i len = length-with (offset (instr_position lengths list number) (start_of lengths list target)) i len
 
--- so all stand where they did
+-- so all have the positions that they had
 pub placed_position : (lengths : List ℕ) (list : BlockList) (number : ℕ) (ms : List Member) (q : ℕ) → position (words (placed lengths list number ms)) q ≡ position (words ms) q
 placed_position lengths list number [] q = refl
 placed_position lengths list number (m ∷ ms) zero = refl
@@ -182,11 +182,3 @@ pub placed_none : (lengths : List ℕ) (list : BlockList) (number : ℕ) (ms : L
 placed_none lengths list number [] q e = refl
 placed_none lengths list number (n ∷ ms) zero e = absurd cc
 placed_none lengths list number (n ∷ ms) (suc q) e = placed_none lengths list (number + 1) ms q e
-
--- where all lengths are four, each instruction's is
-pub four_members : (bs : List Block) → AllByRecursion (λ (m : Member). m.len ≡ offset_len) (joined (groups (map (λ b. offset_len) bs) bs))
-four_members [] = tt
-four_members (b ∷ bs) = all_append _ (members offset_len b) (joined (groups (map (λ b. offset_len) bs) bs)) (all_map _ _ b.instrs (all_of_each _ b.instrs (λ i. refl))) (four_members bs)
-
-pub four_member : (lengths : List ℕ) (list : BlockList) → lengths ≡ four_each list → (number : ℕ) (m : Member) → slice_get (members_of lengths list) number ≡ Some m → m.len ≡ offset_len
-four_member lengths list four number m e = all_at _ (members_of (four_each list) list) number m (four_members list.blocks) (ap (λ l. slice_get (members_of l list) number) (sym four) ∙ e)

@@ -8,6 +8,7 @@ use Rattle.runs.proofs.HasAt.{position_first}
 use Rattle.pvm_ops.specs.Opcodes.{is_known, form_of}
 use Rattle.pvm_ops.specs.Spelling.{spelling, IsEncodable, FitsBytes}
 use Rattle.pvm_ops.specs.BlockList.{BlockList}
+use Rattle.jump_table.specs.Lengths.{FitsIn}
 use Rattle.jump_table.specs.Assembly.{Member, offset_len, entry_len, jump, words, start_of, offset, entry_jumps}
 
 -- numbers near 0, from above and from below, are the sign extensions of their low four bytes
@@ -29,6 +30,64 @@ offset_fits from to h k =
       | inl back ↦ high_fits (offset from to) (omega arith) (omega arith)
       | inr on ↦ low_fits (offset from to) (omega arith)
     ]
+
+-- what is near 0, from above or from below, is the sign extension of its low bytes
+fits_none : (v : ℕ) → v ≡ 0 → FitsBytes 0 v
+fits_none v e = rw e refl
+
+fits_low_one : (v : ℕ) → v < 2 ^ 7 → FitsBytes 1 v
+fits_low_one v h =
+    let low : v % 2 ^ 8 ≡ v = omega arith in
+    let small : nat_lt v (2 ^ 7) ≡ true = grind (arith, nat_tests) in
+    rw (low, small) refl
+
+fits_high_one : (v : ℕ) → 2 ^ 64 - 2 ^ 7 ≤ v → v < 2 ^ 64 → FitsBytes 1 v
+fits_high_one v h k =
+    let large : nat_lt (v % 2 ^ 8) (2 ^ 7) ≡ false = (let half : 2 ^ 7 ≤ v % 2 ^ 8 = omega arith in grind (arith, nat_tests)) in
+    rw large (omega arith)
+
+fits_low_two : (v : ℕ) → v < 2 ^ 15 → FitsBytes 2 v
+fits_low_two v h =
+    let low : v % 2 ^ 16 ≡ v = omega arith in
+    let small : nat_lt v (2 ^ 15) ≡ true = grind (arith, nat_tests) in
+    rw (low, small) refl
+
+fits_high_two : (v : ℕ) → 2 ^ 64 - 2 ^ 15 ≤ v → v < 2 ^ 64 → FitsBytes 2 v
+fits_high_two v h k =
+    let large : nat_lt (v % 2 ^ 16) (2 ^ 15) ≡ false = (let half : 2 ^ 15 ≤ v % 2 ^ 16 = omega arith in grind (arith, nat_tests)) in
+    rw large (omega arith)
+
+fits_low_three : (v : ℕ) → v < 2 ^ 23 → FitsBytes 3 v
+fits_low_three v h =
+    let low : v % 2 ^ 24 ≡ v = omega arith in
+    let small : nat_lt v (2 ^ 23) ≡ true = grind (arith, nat_tests) in
+    rw (low, small) refl
+
+fits_high_three : (v : ℕ) → 2 ^ 64 - 2 ^ 23 ≤ v → v < 2 ^ 64 → FitsBytes 3 v
+fits_high_three v h k =
+    let large : nat_lt (v % 2 ^ 24) (2 ^ 23) ≡ false = (let half : 2 ^ 23 ≤ v % 2 ^ 24 = omega arith in grind (arith, nat_tests)) in
+    rw large (omega arith)
+
+-- an offset whose distance fits a length is the sign extension of its low bytes of that number
+pub fits_bytes : (len from to : ℕ) → len ≤ 4 → from < 2 ^ 31 → to < 2 ^ 31 → FitsIn len from to → FitsBytes len (offset from to)
+fits_bytes zero from to few h k f = fits_none (offset from to) (omega (arith, f))
+fits_bytes (suc zero) from to few h k f =
+    elim (cases_lt to from) [
+      | inl back ↦ (let near = f.0 in fits_high_one (offset from to) (omega arith) (omega arith))
+      | inr on ↦ (let near = f.1 in fits_low_one (offset from to) (omega arith))
+    ]
+fits_bytes (suc (suc zero)) from to few h k f =
+    elim (cases_lt to from) [
+      | inl back ↦ (let near = f.0 in fits_high_two (offset from to) (omega arith) (omega arith))
+      | inr on ↦ (let near = f.1 in fits_low_two (offset from to) (omega arith))
+    ]
+fits_bytes (suc (suc (suc zero))) from to few h k f =
+    elim (cases_lt to from) [
+      | inl back ↦ (let near = f.0 in fits_high_three (offset from to) (omega arith) (omega arith))
+      | inr on ↦ (let near = f.1 in fits_low_three (offset from to) (omega arith))
+    ]
+fits_bytes (suc (suc (suc (suc zero)))) from to few h k f = offset_fits from to h k
+fits_bytes (suc (suc (suc (suc (suc l))))) from to few h k f = absurd (omega arith)
 
 -- a jump whose offset fits can be spelled
 pub jump_encodable : (x : ℕ) → FitsBytes offset_len x → IsEncodable (jump x) offset_len
@@ -59,7 +118,7 @@ entry_jump lengths list at (b ∷ bs) rest (suc entry) block e =
     let there : at + entry_len * suc entry ≡ at + entry_len + entry_len * entry = omega arith in
     rw there (entry_jump lengths list (at + entry_len) bs rest entry block e)
 
--- where an entry's jump stands
+-- the position of an entry's jump
 pub entry_position : (lengths : List ℕ) (list : BlockList) (at : ℕ) (entries : List ℕ) (rest : List Member) (entry : ℕ) → entry ≤ length entries → position (words (entry_jumps lengths list at entries ++ rest)) entry ≡ entry_len * entry
 entry_position lengths list at entries rest zero le = position_first (words (entry_jumps lengths list at entries ++ rest))
 entry_position lengths list at [] rest (suc entry) le = absurd (omega arith)
@@ -67,7 +126,7 @@ entry_position lengths list at (b ∷ bs) rest (suc entry) le =
     let r = entry_position lengths list (at + entry_len) bs rest entry (omega arith) in
     omega (arith, length-jump (offset at (start_of lengths list b)))
 
--- what stands behind the jumps
+-- the instructions after the jumps
 pub behind_get : (lengths : List ℕ) (list : BlockList) (at : ℕ) (entries : List ℕ) (rest : List Member) (q : ℕ) → slice_get (entry_jumps lengths list at entries ++ rest) (length entries + q) ≡ slice_get rest q
 behind_get lengths list at [] rest q = let n : 0 + q ≡ q = omega arith in rw n refl
 behind_get lengths list at (b ∷ bs) rest q =

@@ -1,3 +1,5 @@
+pub mod Least
+pub mod Sizes
 pub mod Written
 pub mod Spelled
 pub mod Entries
@@ -6,5 +8,7 @@ pub mod Blocks
 pub mod Starting
 pub mod Placed
 pub mod BlockStarts
+pub mod Shaping
+pub mod Growing
 pub mod Steps
 pub mod Marking

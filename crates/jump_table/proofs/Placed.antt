@@ -1,5 +1,5 @@
 -- The code of a list of blocks has each instruction at its position.
-use Rattle.std.proofs.Common.{◌≡◌, ℕ, zero, suc, ◌+◌, ◌*◌, ◌<◌, ◌≤◌, ◌^◌, Bool, true, false, List, [], ◌∷◌, length, map, Option, Some, None, refl, sym, ap, ◌∙◌, subst, arith}
+use Rattle.std.proofs.Common.{◌≡◌, ℕ, zero, suc, ◌+◌, ◌*◌, ◌<◌, ◌≤◌, ◌^◌, Bool, true, false, List, length, Option, Some, None, refl, sym, ap, ◌∙◌, subst, arith}
 use Rattle.std.specs.Prelude.{slice_get}
 use Rattle.std.proofs.lemmas.Option.{slice_get_within, slice_get-get_or}
 use Rattle.numbers.specs.Words.{sum_64}
@@ -8,16 +8,17 @@ use Rattle.pvm_ops.specs.declared.instr.Instr.{Instr}
 use Rattle.pvm_ops.specs.Listing.{Listing, is_marked}
 use Rattle.pvm_ops.specs.Opcodes.{form_of}
 use Rattle.pvm_ops.specs.Offsets.{offset_of, has_offset}
-use Rattle.pvm_ops.specs.Spelling.{IsEncodable, FitsBytes}
+use Rattle.pvm_ops.specs.Spelling.{IsEncodable}
 use Rattle.pvm_ops.specs.BlockList.{Block, BlockList, empty_block}
 use Rattle.blob_check.specs.Starts.{is_start}
 use Rattle.jump_table.specs.Assembly.{Member, offset_len, entry_len, jump, members_of, words, first_of, instr_position, start_of, offset, placed_instr, placed, code_members, code_of}
-use Rattle.jump_table.specs.Laws.{IsPlaceable, IsAssemblable, IsWide, AreEnded, AreLengths, Fetches, IsPlaced, CodeIsPlaced, FoursAreWide, TargetsAreLed, is_some}
+use Rattle.jump_table.specs.Laws.{IsPlaceable, IsAssemblable, AreEnded, Fetches, IsPlaced, CodeIsPlaced, TargetsAreLed, is_some}
+use Rattle.jump_table.specs.Lengths.{IsWide}
 use Rattle.jump_table.proofs.Offsets.{with_rest, has_this, encodable_with, encodable_any}
 use Rattle.jump_table.proofs.Written.{written, position_le}
 use Rattle.jump_table.proofs.Spelled.{spelled_fetches, spelled_ends}
-use Rattle.jump_table.proofs.Entries.{offset_fits, jump_encodable, jump_known, entry_jump, entry_position, behind_get, behind_position, length-behind}
-use Rattle.jump_table.proofs.Blocks.{block_member, member_instr, member_has, member_aims, few_member, first_next, block_length, block_last, start_first, placed_position, placed_size, at_number, placed_get, placed_none, four_member}
+use Rattle.jump_table.proofs.Entries.{offset_fits, fits_bytes, jump_encodable, jump_known, entry_jump, entry_position, behind_get, behind_position, length-behind}
+use Rattle.jump_table.proofs.Blocks.{block_member, member_instr, member_has, member_aims, few_member, first_next, block_length, block_last, start_first, placed_position, placed_size, at_number, placed_get, placed_none}
 use Rattle.jump_table.proofs.Starting.{starts_first, starts_behind}
 
 -- all instructions of a list with their offsets
@@ -48,7 +49,7 @@ module _ (lengths : List ℕ) (list : BlockList) (small : length (joined (words 
       let within = position_le (words (members_of lengths list)) number in
       omega (arith, length-behind lengths list 0 list.entries (rest_of lengths list), placed_size lengths list 0 (members_of lengths list))
 
-  -- where the instruction with a number stands behind the jumps
+  -- the position of the instruction with a number after the jumps
   number_position : (number : ℕ) → position (words (code_members lengths list)) (length list.entries + number) ≡ instr_position lengths list number
   number_position number = behind_position lengths list 0 list.entries (rest_of lengths list) number ∙ ap (λ p. entry_len * length list.entries + p) (placed_position lengths list 0 (members_of lengths list) number)
 
@@ -89,9 +90,9 @@ module _ (lengths : List ℕ) (list : BlockList) (small : length (joined (words 
             by_offset : (b : Bool) → has_offset (form_of m.instr.op) ≡ b → b ≡ false
             by_offset true has = (let aimed = member_has lengths list plain.blocks number m e has in let none : is_some m.target ≡ false = ap is_some f in absurd cc)
             by_offset false has = refl
-        by_target (Some target) f = encodable_with _ m.instr m.len offset_len few (λ has. wide.fits number target m e f has) ok.encodable
+        by_target (Some target) f = encodable_with _ m.instr m.len offset_len few (λ has. fits_bytes m.len (instr_position lengths list number) (start_of lengths list target) few (position_small number) (position_small (first_of list target)) (wide.fits number target m e f has)) ok.encodable
 
-    -- so it stands at its position
+    -- so it is at its position
     instr_stands : (number : ℕ) (m : Member) → slice_get (members_of lengths list) number ≡ Some m → Fetches (laid lengths list) (instr_position lengths list number) (placed_instr lengths list number m.target m.instr) (instr_position lengths list (number + 1))
     instr_stands number m e =
         let ok = plain.instrs number m.instr (member_instr lengths list number m e) in
@@ -104,7 +105,7 @@ module _ (lengths : List ℕ) (list : BlockList) (small : length (joined (words 
         (spelled_fetches (code_members lengths list) (length list.entries + number) (at_number lengths list number m) (behind_get lengths list 0 list.entries (rest_of lengths list) number ∙ there)
         (rw (placed_op lengths list number m.target m.instr) ok.known) (placed_encodable number m e))
 
-    -- nothing behind the last
+    -- there is nothing after the last
     none_behind : (number : ℕ) → slice_get (members_of lengths list) number ≡ None → is_marked (laid lengths list) (instr_position lengths list number) ≡ false
     none_behind number e =
         subst (λ (at : ℕ). is_marked (laid lengths list) at ≡ false) (number_position number)
@@ -118,7 +119,7 @@ module _ (lengths : List ℕ) (list : BlockList) (small : length (joined (words 
         let n : first_of list block + 0 ≡ first_of list block = omega arith in
         (_, instr_stands (first_of list block) _ (rw n at (block_member lengths list block b 0 _ e first)))
 
-    -- the first block starts behind the jumps of so many entries, or at position 0
+    -- the first block starts after the jumps of the entries, or at position 0
     first_block : (count : ℕ) (b : Block) → length list.entries ≡ count → slice_get list.blocks 0 ≡ Some b → is_start (laid lengths list) (start_of lengths list 0) ≡ true
     first_block zero b n e =
         let first = first_stands 0 b e in
@@ -130,7 +131,7 @@ module _ (lengths : List ℕ) (list : BlockList) (small : length (joined (words 
         let before = entry_stands entry _ (slice_get-get_or list.entries entry 0 (omega arith)) in
         starts_behind (laid lengths list) _ _ (start_of lengths list 0) first.0 _ (rw here at before) refl first.1
 
-    -- every other starts behind the one before
+    -- every other starts after the one before
     next_block : AreEnded list → (block : ℕ) (b next : Block) → slice_get list.blocks block ≡ Some b → slice_get list.blocks (block + 1) ≡ Some next → is_start (laid lengths list) (start_of lengths list (block + 1)) ≡ true
     next_block are_ended block b next e f =
         let ended = plain.blocks block b e in
@@ -152,28 +153,9 @@ module _ (lengths : List ℕ) (list : BlockList) (small : length (joined (words 
     all_placed : IsPlaced lengths list (laid lengths list)
     all_placed = record { entries = entry_stands; instrs = instr_stands; leads = λ number target m e has. aimed_leads number m.target target m.instr e has; past = none_behind; starts = each_starts; lands = λ are_ended number target m e f. each_starts are_ended target (member_aims lengths list plain.targets number target m e f) }
 
-  -- offsets of four bytes are wide enough
-  pub fours_are_wide : AreLengths list lengths → IsWide list lengths
-  fours_are_wide four = record {
-    few = λ k len e. (let same = four_lengths k len e in omega (arith, same));
-    fits = λ number target m e f has. subst (λ len. FitsBytes len (offset (instr_position lengths list number) (start_of lengths list target))) (sym (four_member lengths list four number m e)) (offset_fits (instr_position lengths list number) (start_of lengths list target) (position_small number) (position_small (first_of list target)));
-  }
-    where
-      four_lengths : (k len : ℕ) → slice_get lengths k ≡ Some len → len ≡ 4
-      four_lengths k len e = are_four list.blocks k len (ap (λ l. slice_get l k) (sym four) ∙ e)
-        where
-          are_four : (bs : List Block) (k len : ℕ) → slice_get (map (λ b. offset_len) bs) k ≡ Some len → len ≡ 4
-          are_four [] k len e = absurd cc
-          are_four (b ∷ bs) zero len e = cc
-          are_four (b ∷ bs) (suc k) len e = are_four bs k len e
-
 pub code_is_placed : CodeIsPlaced
 unfolding code_of
 code_is_placed lengths list plain wide small = all_placed lengths list small plain wide
-
-pub fours_are_wide_enough : FoursAreWide
-unfolding code_of
-fours_are_wide_enough lengths list four small = fours_are_wide lengths list small four
 
 -- at the end of a block with a target
 pub targets_are_led : TargetsAreLed

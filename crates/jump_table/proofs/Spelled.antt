@@ -1,4 +1,4 @@
--- Instructions as code: each is fetched where it stands.
+-- Instructions as code: each is fetched at its position.
 use Rattle.std.proofs.Common.{◌≡◌, ℕ, ◌+◌, ◌≤◌, true, false, List, length, Some, None, refl, ap, ◌∙◌, subst, arith}
 use Rattle.std.specs.Prelude.{IsTrue, slice_get, slice_index, option_map}
 use Rattle.std.proofs.lemmas.Option.{slice_get-map}
@@ -31,7 +31,7 @@ pub some_spelling : (i : Instr) (len : ℕ) → 1 ≤ length (spelling i len)
 unfolding spelling
 some_spelling i len = omega arith
 
--- operands stop where an instruction of the list begins, and behind the last
+-- operands end where an instruction of the list begins, and after the last
 all_stop : (is : List Member) (q : ℕ) → is_stop (written (words is)) (position (words is) q) ≡ true
 all_stop is q =
     elim (slice_get is q) as (λ o. slice_get is q ≡ o → is_stop (written (words is)) (position (words is) q) ≡ true) [
@@ -50,7 +50,7 @@ stands_alone is q i e =
       stop = subst (λ (at : ℕ). is_stop (written (words is)) at ≡ true) (position_next (words is) q _ word) (all_stop is (q + 1));
     }
 
--- so it is fetched there, with the position of the next behind it
+-- so it is fetched there, with the position of the next after it
 pub spelled_fetches : (is : List Member) (q : ℕ) (i : Member) → slice_get is q ≡ Some i → IsTrue (is_known i.instr.op) → IsEncodable i.instr i.len → Fetches (written (words is)) (position (words is) q) i.instr (position (words is) (q + 1))
 spelled_fetches is q i e known ok =
     let alone = stands_alone is q i e in
@@ -62,6 +62,6 @@ spelled_fetches is q i e known ok =
       fetched = rw next (reads-back _ i.instr _ i.len known ok alone);
     }
 
--- nothing is marked behind the last
+-- nothing is marked after the last
 pub spelled_ends : (is : List Member) (q : ℕ) → slice_get is q ≡ None → is_marked (written (words is)) (position (words is) q) ≡ false
 spelled_ends is q e = past_unmarked (words is) q (spelled_past is q e)

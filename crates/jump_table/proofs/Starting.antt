@@ -36,14 +36,14 @@ fetched_op code at i next h =
     let both = rw (h.marked, h.known) at h.fetched in
     sym (operands_op code.bytes at (slice_index code.bytes at) (skip code at) (form_of (slice_index code.bytes at))) ∙ ap (λ f. f.instr.op) both
 
--- the position behind an instruction is where its operands stop
+-- the position after an instruction is where its operands end
 fetched_next : (code : Listing) (at : ℕ) (i : Instr) (next : ℕ) → Fetches code at i next → at + 1 + skip code at ≡ next
 unfolding fetch_of
 fetched_next code at i next h =
     let both = rw (h.marked, h.known) at h.fetched in
     ap (λ f. f.next) both
 
--- an instruction that ends its block leads to the position behind it
+-- an instruction that ends its block leads to the position after it
 terminator_leads : (code : Listing) (from : ℕ) (i : Instr) (at : ℕ) → Fetches code from i at → is_terminator i.op ≡ true → leads code at from ≡ true
 unfolding leads
 terminator_leads code from i at h ends =
@@ -62,11 +62,11 @@ passes_below p (suc n) m lt e =
       | inr here ↦ let same : n ≡ m = omega arith in rw (same, e) refl
     ]
 
--- a block starts at position 0 where an instruction stands there
+-- a block starts at position 0 if an instruction is there
 pub starts_first : (code : Listing) (i : Instr) (next : ℕ) → Fetches code 0 i next → is_start code 0 ≡ true
 starts_first code i next h = rw (h.marked, h.known) refl
 
--- a block starts at an instruction behind one that ends its block
+-- a block starts at an instruction after one that ends its block
 pub starts_behind : (code : Listing) (from : ℕ) (j : Instr) (at : ℕ) (i : Instr) (next : ℕ) → Fetches code from j at → is_terminator j.op ≡ true → Fetches code at i next → is_start code at ≡ true
 starts_behind code from j at i next before ends h =
     let behind = fetched_next code from j at before in

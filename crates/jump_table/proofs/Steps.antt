@@ -12,22 +12,16 @@ use Rattle.pvm_ops.specs.Fetch.{trap}
 use Rattle.pvm_ops.specs.Spelling.{spelling, IsEncodable}
 use Rattle.pvm_ops.specs.BlockList.{Block, BlockList, block_at, empty_block}
 use Rattle.pvm_ops.proofs.Masks.{length-packed}
-use Rattle.jump_table.specs.Assembly.{Member, offset_len, entry_len, jump, members, groups, members_of, first_of, words, instr_position, start_of, offset, entry_jumps, placed_instr, placed, code_members, code_of, four_each}
+use Rattle.jump_table.specs.Assembly.{Member, offset_len, entry_len, jump, members, groups, members_of, first_of, words, instr_position, start_of, offset, entry_jumps, placed_instr, placed, code_members, code_of}
+use Rattle.jump_table.specs.Lengths.{IsWide}
 use Rattle.jump_table.specs.Laws.{IsAssemblable}
-use Rattle.jump_table.specs.Assembling.{most_bytes, AreStarts, HasRoom, spelled, with_mark, with_word, with_words, instr_at}
+use Rattle.jump_table.specs.Assembling.{most_bytes, AreStarts, HasRoom, with_mark, with_word, with_words, instr_at}
 use Rattle.jump_table.proofs.Spelled.{some_spelling}
 use Rattle.jump_table.proofs.Entries.{offset_fits, jump_encodable, length-behind}
 use Rattle.jump_table.proofs.Blocks.{block_member, member_instr, first_next, all_map, all_of_each, placed_length, placed_size}
-use Rattle.jump_table.proofs.Placed.{placed_op, placed_encodable, fours_are_wide}
-use Rattle.jump_table.proofs.BlockStarts.{members_spelled, four_at, four_group, groups_count, code_size, position_within}
+use Rattle.jump_table.proofs.Placed.{placed_op, placed_encodable}
+use Rattle.jump_table.proofs.BlockStarts.{group_at, groups_count, code_size, position_within}
 use Rattle.jump_table.proofs.Marking.{words_written}
-
--- the bytes of instructions that are left: those of the next, and those after it
-pub size_more : (is : List Instr) (k : ℕ) (d : Instr) → k < length is → length (joined (spelled (drop k is))) ≡ length (spelling (get_or is k d) offset_len) + length (joined (spelled (drop (k + 1) is)))
-size_more is k d lt = at_drop_more (λ is. length (joined (spelled is))) is k d lt ∙ length-append (spelling (get_or is k d) offset_len) (joined (spelled (drop (k + 1) is)))
-
-pub size_none : (is : List Instr) (k : ℕ) → length is ≤ k → length (joined (spelled (drop k is))) ≡ 0
-size_none is k le = at_drop_all (λ is. length (joined (spelled is))) is k le
 
 -- words after words
 pub words_append : (code : Listing) (xs ys : List (List ℕ)) → with_words code (xs ++ ys) ≡ with_words (with_words code xs) ys
@@ -73,132 +67,130 @@ pub entry_more : (lengths : List ℕ) (list : BlockList) (code : Listing) (at k 
 entry_more lengths list code at k lt = at_drop_more (λ es. with_words code (words (entry_jumps lengths list at es))) list.entries k 0 lt
 
 -- its jump, by the starts of blocks
-pub entry_is : (list : BlockList) (starts items : List ℕ) → IsAssemblable list → AreStarts (four_each list) list starts → items ≡ list.entries → (k at to x : ℕ) (i : Instr) → k < length items → at ≡ entry_len * k → to ≡ get_or starts (get_or items k 0) to → x ≡ offset at to → i ≡ jump x → i ≡ jump (offset (entry_len * k) (start_of (four_each list) list (get_or list.entries k 0)))
-entry_is list starts items plain are same k at to x i lt is_at is_to is_x is_i =
+pub entry_is : (lengths : List ℕ) (list : BlockList) (starts items : List ℕ) → IsAssemblable list → AreStarts lengths list starts → items ≡ list.entries → (k at to x : ℕ) (i : Instr) → k < length items → at ≡ entry_len * k → to ≡ get_or starts (get_or items k 0) to → x ≡ offset at to → i ≡ jump x → i ≡ jump (offset (entry_len * k) (start_of lengths list (get_or list.entries k 0)))
+entry_is lengths list starts items plain are same k at to x i lt is_at is_to is_x is_i =
     let block = get_or list.entries k 0 in
     let inside : k < length list.entries = omega (arith, ap length same) in
     let below : block < length list.blocks = plain.entries k block (slice_get-get_or list.entries k 0 inside) in
     let read : to ≡ get_or starts block to = rw same at is_to in
-    let start : to ≡ start_of (four_each list) list block = get_or_read starts block to (omega (arith, are.count)) read 0 ∙ are.each block below in
+    let start : to ≡ start_of lengths list block = get_or_read starts block to (omega (arith, are.count)) read 0 ∙ are.each block below in
     is_i ∙ ap jump (is_x ∙ rw (is_at, start) refl)
 
 -- its jump can be written
-pub entry_fits : (list : BlockList) (k block : ℕ) → length (code_of (four_each list) list).bytes ≤ most_bytes → k < length list.entries → IsEncodable (jump (offset (entry_len * k) (start_of (four_each list) list block))) offset_len
-entry_fits list k block small lt =
-    let within = position_within (four_each list) list (first_of list block) in
-    jump_encodable _ (offset_fits (entry_len * k) (start_of (four_each list) list block) (omega (arith, code_size (four_each list) list)) (omega arith))
+pub entry_fits : (lengths : List ℕ) (list : BlockList) (k block : ℕ) → length (code_of lengths list).bytes ≤ most_bytes → k < length list.entries → IsEncodable (jump (offset (entry_len * k) (start_of lengths list block))) offset_len
+entry_fits lengths list k block small lt =
+    let within = position_within lengths list (first_of list block) in
+    jump_encodable _ (offset_fits (entry_len * k) (start_of lengths list block) (omega (arith, code_size lengths list)) (omega arith))
 
 -- an instruction of a block among all
-pub four_member_at : (list : BlockList) (block k : ℕ) → block < length list.blocks → k < length (block_at list block).instrs → slice_get (members_of (four_each list) list) (first_of list block + k) ≡ Some (record { instr = get_or (block_at list block).instrs k trap; len = offset_len; target = (block_at list block).target })
-four_member_at list block k lt inside =
+pub member_at : (lengths : List ℕ) (list : BlockList) (block k : ℕ) → block < length list.blocks → k < length (block_at list block).instrs → slice_get (members_of lengths list) (first_of list block + k) ≡ Some (record { instr = get_or (block_at list block).instrs k trap; len = slice_index lengths block; target = (block_at list block).target })
+member_at lengths list block k lt inside =
     let b = block_at list block in
-    let i = get_or b.instrs k trap in
-    block_member (four_each list) list block b k i (slice_get-get_or list.blocks block empty_block lt) (slice_get-get_or b.instrs k trap inside)
-    ∙ ap (λ (len : ℕ). Some (record { instr = i; len = len; target = b.target })) (four_at list block lt)
+    block_member lengths list block b k (get_or b.instrs k trap) (slice_get-get_or list.blocks block empty_block lt) (slice_get-get_or b.instrs k trap inside)
 
 -- its opcode is known
 pub instr_known : (list : BlockList) → IsAssemblable list → (block k : ℕ) → block < length list.blocks → k < length (block_at list block).instrs → IsTrue (is_known (get_or (block_at list block).instrs k trap).op)
-instr_known list plain block k lt inside = (plain.instrs (first_of list block + k) _ (member_instr (four_each list) list (first_of list block + k) _ (four_member_at list block k lt inside))).known
+instr_known list plain block k lt inside = (plain.instrs (first_of list block + k) _ (member_instr [] list (first_of list block + k) _ (member_at [] list block k lt inside))).known
 
 -- the instruction with the offset to its block's target
-abbrev pub next_instr : BlockList → ℕ → ℕ → Instr
-next_instr list block k = placed_instr (four_each list) list (first_of list block + k) (block_at list block).target (get_or (block_at list block).instrs k trap)
+abbrev pub next_instr : List ℕ → BlockList → ℕ → ℕ → Instr
+next_instr lengths list block k = placed_instr lengths list (first_of list block + k) (block_at list block).target (get_or (block_at list block).instrs k trap)
 
-pub next_known : (list : BlockList) → IsAssemblable list → (block k : ℕ) → block < length list.blocks → k < length (block_at list block).instrs → IsTrue (is_known (next_instr list block k).op)
-next_known list plain block k lt inside = rw (placed_op (four_each list) list (first_of list block + k) (block_at list block).target (get_or (block_at list block).instrs k trap)) (instr_known list plain block k lt inside)
+pub next_known : (lengths : List ℕ) (list : BlockList) → IsAssemblable list → (block k : ℕ) → block < length list.blocks → k < length (block_at list block).instrs → IsTrue (is_known (next_instr lengths list block k).op)
+next_known lengths list plain block k lt inside = rw (placed_op lengths list (first_of list block + k) (block_at list block).target (get_or (block_at list block).instrs k trap)) (instr_known list plain block k lt inside)
 
-pub next_fits : (list : BlockList) → IsAssemblable list → length (code_of (four_each list) list).bytes ≤ most_bytes → (block k : ℕ) → block < length list.blocks → k < length (block_at list block).instrs → IsEncodable (next_instr list block k) offset_len
+pub next_fits : (lengths : List ℕ) (list : BlockList) → IsAssemblable list → IsWide list lengths → length (code_of lengths list).bytes ≤ most_bytes → (block k : ℕ) → block < length list.blocks → k < length (block_at list block).instrs → IsEncodable (next_instr lengths list block k) (slice_index lengths block)
 unfolding code_of
-next_fits list plain small block k lt inside =
-    let few : length (joined (words (code_members (four_each list) list))) < 2 ^ 31 = omega arith in
-    placed_encodable (four_each list) list few plain (fours_are_wide (four_each list) list few refl) (first_of list block + k) _ (four_member_at list block k lt inside)
+next_fits lengths list plain wide small block k lt inside =
+    let few : length (joined (words (code_members lengths list))) < 2 ^ 31 = omega arith in
+    placed_encodable lengths list few plain wide (first_of list block + k) _ (member_at lengths list block k lt inside)
 
 -- the target of a block is a block
 pub target_within : (list : BlockList) → IsAssemblable list → (block target : ℕ) → block < length list.blocks → (block_at list block).target ≡ Some target → target < length list.blocks
 target_within list plain block target lt e = plain.targets block target (block_at list block) (slice_get-get_or list.blocks block empty_block lt) e
 
 -- so the instruction is found by the starts of blocks
-pub next_is : (list : BlockList) (starts : List ℕ) → IsAssemblable list → AreStarts (four_each list) list starts → (block k at : ℕ) → block < length list.blocks → at ≡ instr_position (four_each list) list (first_of list block + k) → instr_at at (get_or (block_at list block).instrs k trap) (block_at list block).target starts ≡ next_instr list block k
-next_is list starts plain are block k at lt is = by_target (block_at list block).target refl
+pub next_is : (lengths : List ℕ) (list : BlockList) (starts : List ℕ) → IsAssemblable list → AreStarts lengths list starts → (block k at : ℕ) → block < length list.blocks → at ≡ instr_position lengths list (first_of list block + k) → instr_at at (get_or (block_at list block).instrs k trap) (block_at list block).target starts ≡ next_instr lengths list block k
+next_is lengths list starts plain are block k at lt is = by_target (block_at list block).target refl
   where
     i : Instr
     i = get_or (block_at list block).instrs k trap
 
-    by_target : (o : Option ℕ) → (block_at list block).target ≡ o → instr_at at i o starts ≡ placed_instr (four_each list) list (first_of list block + k) o i
+    by_target : (o : Option ℕ) → (block_at list block).target ≡ o → instr_at at i o starts ≡ placed_instr lengths list (first_of list block + k) o i
     by_target None e = refl
     by_target (Some target) e = rw (is, are.each target (target_within list plain block target lt e)) refl
 
 -- the instruction of a block that is next
-pub instr_more : (list : BlockList) (code : Listing) (block k : ℕ) → k < length (block_at list block).instrs
-    → with_words code (words (placed (four_each list) list (first_of list block + k) (members offset_len (record { instrs = drop k (block_at list block).instrs; target = (block_at list block).target }))))
-    ≡ with_words (with_word code (spelling (next_instr list block k) offset_len)) (words (placed (four_each list) list (first_of list block + (k + 1)) (members offset_len (record { instrs = drop (k + 1) (block_at list block).instrs; target = (block_at list block).target }))))
-instr_more list code block k lt =
+pub instr_more : (lengths : List ℕ) (list : BlockList) (code : Listing) (block k : ℕ) → k < length (block_at list block).instrs
+    → with_words code (words (placed lengths list (first_of list block + k) (members (slice_index lengths block) (record { instrs = drop k (block_at list block).instrs; target = (block_at list block).target }))))
+    ≡ with_words (with_word code (spelling (next_instr lengths list block k) (slice_index lengths block))) (words (placed lengths list (first_of list block + (k + 1)) (members (slice_index lengths block) (record { instrs = drop (k + 1) (block_at list block).instrs; target = (block_at list block).target }))))
+instr_more lengths list code block k lt =
     let b = block_at list block in
     let n : first_of list block + (k + 1) ≡ first_of list block + k + 1 = omega arith in
-    rw n (at_drop_more (λ (is : List Instr). with_words code (words (placed (four_each list) list (first_of list block + k) (members offset_len (record { instrs = is; target = b.target }))))) b.instrs k trap lt)
+    rw n (at_drop_more (λ (is : List Instr). with_words code (words (placed lengths list (first_of list block + k) (members (slice_index lengths block) (record { instrs = is; target = b.target }))))) b.instrs k trap lt)
 
 -- and the position after it
-pub instr_next : (list : BlockList) (block k : ℕ) → block < length list.blocks → k < length (block_at list block).instrs → instr_position (four_each list) list (first_of list block + (k + 1)) ≡ instr_position (four_each list) list (first_of list block + k) + length (spelling (next_instr list block k) offset_len)
-instr_next list block k lt inside =
+pub instr_next : (lengths : List ℕ) (list : BlockList) (block k : ℕ) → block < length list.blocks → k < length (block_at list block).instrs → instr_position lengths list (first_of list block + (k + 1)) ≡ instr_position lengths list (first_of list block + k) + length (spelling (next_instr lengths list block k) (slice_index lengths block))
+instr_next lengths list block k lt inside =
     let b = block_at list block in
     let i = get_or b.instrs k trap in
     let number = first_of list block + k in
     let n : first_of list block + (k + 1) ≡ number + 1 = omega arith in
-    let word : slice_get (words (members_of (four_each list) list)) number ≡ Some (spelling i offset_len) =
-    slice_get-map (λ (m : Member). spelling m.instr m.len) (members_of (four_each list) list) number ∙ ap (option_map (λ (m : Member). spelling m.instr m.len)) (four_member_at list block k lt inside) in
-    let next = position_next (words (members_of (four_each list) list)) number (spelling i offset_len) word in
-    rw n (omega (arith, placed_length (four_each list) list number b.target i offset_len))
+    let word : slice_get (words (members_of lengths list)) number ≡ Some (spelling i (slice_index lengths block)) =
+    slice_get-map (λ (m : Member). spelling m.instr m.len) (members_of lengths list) number ∙ ap (option_map (λ (m : Member). spelling m.instr m.len)) (member_at lengths list block k lt inside) in
+    let next = position_next (words (members_of lengths list)) number (spelling i (slice_index lengths block)) word in
+    rw n (omega (arith, placed_length lengths list number b.target i (slice_index lengths block)))
 
 -- its first byte is in the code
-pub instr_within : (list : BlockList) (block k : ℕ) → block < length list.blocks → k < length (block_at list block).instrs → instr_position (four_each list) list (first_of list block + k) < length (code_of (four_each list) list).bytes
-instr_within list block k lt inside =
-    omega (arith, instr_next list block k lt inside, some_spelling (next_instr list block k) offset_len, position_within (four_each list) list (first_of list block + (k + 1)))
+pub instr_within : (lengths : List ℕ) (list : BlockList) (block k : ℕ) → block < length list.blocks → k < length (block_at list block).instrs → instr_position lengths list (first_of list block + k) < length (code_of lengths list).bytes
+instr_within lengths list block k lt inside =
+    omega (arith, instr_next lengths list block k lt inside, some_spelling (next_instr lengths list block k) (slice_index lengths block), position_within lengths list (first_of list block + (k + 1)))
 
 -- the block that is next
-pub block_more : (list : BlockList) (code : Listing) (block : ℕ) → block < length list.blocks
-    → with_words code (words (placed (four_each list) list (first_of list block) (joined (drop block (groups (four_each list) list.blocks)))))
-    ≡ with_words (with_words code (words (placed (four_each list) list (first_of list block) (members offset_len (block_at list block))))) (words (placed (four_each list) list (first_of list (block + 1)) (joined (drop (block + 1) (groups (four_each list) list.blocks)))))
-block_more list code block lt =
+pub block_more : (lengths : List ℕ) (list : BlockList) (code : Listing) (block : ℕ) → block < length list.blocks
+    → with_words code (words (placed lengths list (first_of list block) (joined (drop block (groups lengths list.blocks)))))
+    ≡ with_words (with_words code (words (placed lengths list (first_of list block) (members (slice_index lengths block) (block_at list block))))) (words (placed lengths list (first_of list (block + 1)) (joined (drop (block + 1) (groups lengths list.blocks)))))
+block_more lengths list code block lt =
     let b = block_at list block in
-    let ms = members offset_len b in
-    let gs = groups (four_each list) list.blocks in
+    let ms = members (slice_index lengths block) b in
+    let gs = groups lengths list.blocks in
     let number = first_of list block in
     let rest = joined (drop (block + 1) gs) in
-    let here = four_group list block lt in
-    let next : number + length ms ≡ first_of list (block + 1) = omega (arith, first_next list block b (slice_get-get_or list.blocks block empty_block lt), length-map {B = Member} b.instrs (λ i. record { instr = i; len = offset_len; target = b.target })) in
-    at_drop_more (λ (g : List (List Member)). with_words code (words (placed (four_each list) list number (joined g)))) gs block [] (slice_get_within gs block ms here)
-    ∙ ap (λ (m : List Member). with_words code (words (placed (four_each list) list number (m ++ rest)))) (get_or_from_slice_get gs block ms [] here)
-    ∙ ap (with_words code) (placed_words (four_each list) list number ms rest)
-    ∙ words_append code (words (placed (four_each list) list number ms)) (words (placed (four_each list) list (number + length ms) rest))
-    ∙ ap (λ (k : ℕ). with_words (with_words code (words (placed (four_each list) list number ms))) (words (placed (four_each list) list k rest))) next
+    let here = group_at lengths list block lt in
+    let next : number + length ms ≡ first_of list (block + 1) = omega (arith, first_next list block b (slice_get-get_or list.blocks block empty_block lt), length-map {B = Member} b.instrs (λ i. record { instr = i; len = slice_index lengths block; target = b.target })) in
+    at_drop_more (λ (g : List (List Member)). with_words code (words (placed lengths list number (joined g)))) gs block [] (slice_get_within gs block ms here)
+    ∙ ap (λ (m : List Member). with_words code (words (placed lengths list number (m ++ rest)))) (get_or_from_slice_get gs block ms [] here)
+    ∙ ap (with_words code) (placed_words lengths list number ms rest)
+    ∙ words_append code (words (placed lengths list number ms)) (words (placed lengths list (number + length ms) rest))
+    ∙ ap (λ (k : ℕ). with_words (with_words code (words (placed lengths list number ms))) (words (placed lengths list k rest))) next
 
 -- how many bytes its instructions take
-pub block_size : (list : BlockList) (number block : ℕ) → length (joined (words (placed (four_each list) list number (members offset_len (block_at list block))))) ≡ length (joined (spelled (block_at list block).instrs))
-block_size list number block = placed_size (four_each list) list number (members offset_len (block_at list block)) ∙ ap (λ (ws : List (List ℕ)). length (joined ws)) (members_spelled (block_at list block))
+pub block_size : (lengths : List ℕ) (list : BlockList) (number block : ℕ) → length (joined (words (placed lengths list number (members (slice_index lengths block) (block_at list block))))) ≡ length (joined (words (members (slice_index lengths block) (block_at list block))))
+block_size lengths list number block = placed_size lengths list number (members (slice_index lengths block) (block_at list block))
 
 -- the code of jumps and blocks
-pub all_written : (list : BlockList) (size : ℕ) → size ≡ length (code_of (four_each list) list).bytes → with_words (with_words (record { bytes = []; mask = packed (replicate size false) }) (words (entry_jumps (four_each list) list 0 list.entries))) (words (placed (four_each list) list 0 (members_of (four_each list) list))) ≡ code_of (four_each list) list
+pub all_written : (lengths : List ℕ) (list : BlockList) (size : ℕ) → size ≡ length (code_of lengths list).bytes → with_words (with_words (record { bytes = []; mask = packed (replicate size false) }) (words (entry_jumps lengths list 0 list.entries))) (words (placed lengths list 0 (members_of lengths list))) ≡ code_of lengths list
 unfolding code_of
-all_written list size is =
-    let jumps = entry_jumps (four_each list) list 0 list.entries in
-    let blocks = placed (four_each list) list 0 (members_of (four_each list) list) in
+all_written lengths list size is =
+    let jumps = entry_jumps lengths list 0 list.entries in
+    let blocks = placed lengths list 0 (members_of lengths list) in
     sym (words_append (record { bytes = []; mask = packed (replicate size false) }) (words jumps) (words blocks))
     ∙ ap (with_words (record { bytes = []; mask = packed (replicate size false) })) (sym (map-append (λ (m : Member). spelling m.instr m.len) jumps blocks))
     ∙ words_written (words (jumps ++ blocks)) size (all_map _ _ (jumps ++ blocks) (all_of_each _ (jumps ++ blocks) (λ (m : Member). some_spelling m.instr m.len))) is
 
 -- a mask for the whole code
-pub room_new : (list : BlockList) (size : ℕ) → size ≡ length (code_of (four_each list) list).bytes → HasRoom list (record { bytes = []; mask = packed (replicate size false) })
-room_new list size is = omega (arith, length-packed (replicate size false), length-replicate size false)
+pub room_new : (lengths : List ℕ) (list : BlockList) (size : ℕ) → size ≡ length (code_of lengths list).bytes → HasRoom lengths list (record { bytes = []; mask = packed (replicate size false) })
+room_new lengths list size is = omega (arith, length-packed (replicate size false), length-replicate size false)
 
 -- a code without words left
-pub blocks_none : (list : BlockList) (code : Listing) (block : ℕ) → length list.blocks ≤ block → with_words code (words (placed (four_each list) list (first_of list block) (joined (drop block (groups (four_each list) list.blocks))))) ≡ code
-blocks_none list code block le = at_drop_all (λ (g : List (List Member)). with_words code (words (placed (four_each list) list (first_of list block) (joined g)))) (groups (four_each list) list.blocks) block (groups_count list block le)
+pub blocks_none : (lengths : List ℕ) (list : BlockList) (code : Listing) (block : ℕ) → length list.blocks ≤ block → with_words code (words (placed lengths list (first_of list block) (joined (drop block (groups lengths list.blocks))))) ≡ code
+blocks_none lengths list code block le = at_drop_all (λ (g : List (List Member)). with_words code (words (placed lengths list (first_of list block) (joined g)))) (groups lengths list.blocks) block (groups_count lengths list block le)
 
 -- the first instruction has number 0
 pub first_zero : (list : BlockList) → first_of list 0 ≡ 0
 first_zero list = position_first (map (λ (b : Block). b.instrs) list.blocks)
 
 -- the positions of blocks, by the starts of blocks
-pub starts_same : (list : BlockList) (starts blocks : List ℕ) → AreStarts (four_each list) list starts → ((place block : ℕ) → slice_get blocks place ≡ Some block → block < length list.blocks) → map (λ block. slice_index starts block) blocks ≡ map (start_of (four_each list) list) blocks
-starts_same list starts [] are below = refl
-starts_same list starts (b ∷ bs) are below = rw (are.each b (below 0 b refl), starts_same list starts bs are (λ place block e. below (suc place) block e)) refl
+pub starts_same : (lengths : List ℕ) (list : BlockList) (starts blocks : List ℕ) → AreStarts lengths list starts → ((place block : ℕ) → slice_get blocks place ≡ Some block → block < length list.blocks) → map (λ block. slice_index starts block) blocks ≡ map (start_of lengths list) blocks
+starts_same lengths list starts [] are below = refl
+starts_same lengths list starts (b ∷ bs) are below = rw (are.each b (below 0 b refl), starts_same lengths list starts bs are (λ place block e. below (suc place) block e)) refl

@@ -1,4 +1,4 @@
--- Words as code: what is read, marked and stopped at where each of them stands.
+-- Words as code: what is read and marked at the position of each, and where operands end.
 use Rattle.std.proofs.Common.{◌≡◌, ℕ, zero, suc, ◌+◌, ◌<◌, ◌≤◌, Bool, true, false, List, [], ◌∷◌, length, map, Some, None, refl, ◌∙◌, arith, length-append, get_or, inl, inr}
 use Rattle.std.specs.Prelude.{slice_get, nat_le}
 use Rattle.std.proofs.Math.Bool.{or-true}
@@ -14,11 +14,11 @@ use Rattle.pvm_ops.specs.Listing.{Listing, is_marked, is_stop, packed}
 use Rattle.pvm_ops.specs.Spelling.{Reads}
 use Rattle.pvm_ops.proofs.Masks.{is_marked-packed, is_stop-packed}
 
--- words one behind the other as code, where the first byte of each is marked
+-- words as code, one after another, where the first byte of each is marked
 abbrev pub written : List (List ℕ) → Listing
 written ws = record { bytes = joined ws; mask = packed (joined (map marks ws)) }
 
--- bytes that stand at a position are read there
+-- bytes at a position are read there
 has_reads : (bytes : List ℕ) (at : ℕ) (w : List ℕ) → HasAt bytes at w → Reads bytes at w
 has_reads bytes at [] h = tt
 has_reads bytes at (x ∷ xs) h = (get_or_from_slice_get bytes at x 0 h.0, has_reads bytes (at + 1) xs h.1)
@@ -35,7 +35,7 @@ marks_joined (w ∷ ws) =
     let same = marks_length w in
     omega (arith, length-append (marks w) (joined (map marks ws)), length-append w (joined ws))
 
--- no position is behind the end
+-- no position is after the end
 pub position_le : (ws : List (List ℕ)) (k : ℕ) → position ws k ≤ length (joined ws)
 position_le [] k = omega arith
 position_le (w ∷ ws) zero = omega arith
@@ -55,7 +55,7 @@ other_marks ms at (x ∷ xs) p h le lt =
       | inr here ↦ let e : p ≡ at = omega arith in rw e (get_or_from_slice_get ms at false false h.0)
     ]
 
--- the marks of a word behind its first
+-- the marks of a word after its first
 later_marks : (ms : List Bool) (at : ℕ) (w : List ℕ) (p : ℕ) → HasAt ms at (marks w) → at + 1 ≤ p → p < at + length w → get_or ms p false ≡ false
 later_marks ms at [] p h le lt = absurd (omega arith)
 later_marks ms at (x ∷ xs) p h le lt = other_marks ms (at + 1) xs p h.1 le (omega arith)
@@ -66,7 +66,7 @@ word_marked ws k w e some =
     is_marked-packed (joined ws) (joined (map marks ws)) (marks_joined ws) (position ws k)
     ∙ first_mark _ _ w some (marked_at ws k w e)
 
--- nothing is marked behind the last
+-- nothing is marked after the last
 pub past_unmarked : (ws : List (List ℕ)) (k : ℕ) → slice_get ws k ≡ None → is_marked (written ws) (position ws k) ≡ false
 past_unmarked ws k e =
     let end = position_past ws k e in
@@ -81,7 +81,7 @@ word_stops ws k w e some =
     is_stop-packed (joined ws) (joined (map marks ws)) (marks_joined ws) (position ws k)
     ∙ rw mark (or-true (nat_le (length (joined ws)) (position ws k)))
 
--- and behind the last
+-- and after the last
 pub past_stops : (ws : List (List ℕ)) (k : ℕ) → slice_get ws k ≡ None → is_stop (written ws) (position ws k) ≡ true
 past_stops ws k e =
     let end = position_past ws k e in

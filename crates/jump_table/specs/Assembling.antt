@@ -6,8 +6,8 @@ use Rattle.pvm_ops.specs.Opcodes.{form_of}
 use Rattle.pvm_ops.specs.Offsets.{with_offset}
 use Rattle.pvm_ops.specs.Spelling.{spelling}
 use Rattle.pvm_ops.specs.BlockList.{BlockList}
-use Rattle.jump_table.specs.Assembly.{offset_len, offset, start_of, code_of, table_of, width_of, four_each}
-use Rattle.jump_table.specs.Laws.{AreLengths}
+use Rattle.jump_table.specs.Assembly.{offset, start_of, code_of, table_of, width_of}
+use Rattle.jump_table.specs.Lengths.{IsWide, AreLengths}
 use Rattle.jump_table.specs.declared.fault.AssembleFault.{AssembleFault}
 use Rattle.jump_table.specs.declared.fault.AssembleFault.TheVariants.{TooLarge, Memory}
 
@@ -37,24 +37,25 @@ pub record Assembles (list : BlockList) (assembled : AssembledCode) : Type 0 whe
   pub starts : AreStarts lengths list assembled.starts
   pub size : length assembled.code.bytes ≤ most_bytes
 
--- the code of a list has too many bytes
+-- the code of a list has too many bytes, whatever wide enough lengths its offsets have
 abbrev pub IsTooLarge : BlockList → Type 0
-IsTooLarge list = (lengths : List ℕ) → AreLengths list lengths → most_bytes < length (code_of lengths list).bytes
+IsTooLarge list = (lengths : List ℕ) → IsWide list lengths → most_bytes < length (code_of lengths list).bytes
 
 -- when a list has no code
 abbrev pub Refuses : BlockList → AssembleFault → Type 0
 Refuses list TooLarge = IsTooLarge list
 Refuses list Memory = Unit {0}
 
--- the position of each block, and the number of bytes of the code
-pub record ArePositions (list : BlockList) (starts : List ℕ) (end : ℕ) : Type 0 where
-  pub are_starts : AreStarts (four_each list) list starts
-  pub is_end : end ≡ length (code_of (four_each list) list).bytes
+-- the lengths of the offsets, the position of each block, and the number of bytes of the code
+pub record ArePositions (list : BlockList) (lengths starts : List ℕ) (end : ℕ) : Type 0 where
+  pub are_lengths : AreLengths list lengths
+  pub are_starts : AreStarts lengths list starts
+  pub is_end : end ≡ length (code_of lengths list).bytes
   pub small : end ≤ most_bytes
 
--- instructions as bytes, one word for each
-abbrev pub spelled : List Instr → List (List ℕ)
-spelled instrs = map (λ i. spelling i offset_len) instrs
+-- instructions as bytes, one word for each, with offsets of a length
+abbrev pub spelled : ℕ → List Instr → List (List ℕ)
+spelled len instrs = map (λ i. spelling i len) instrs
 
 -- a mask with the mark of a position
 abbrev pub with_mark : ℕ → List ℕ → List ℕ
@@ -70,8 +71,8 @@ with_words code [] = code
 with_words code (word ∷ words) = with_words (with_word code word) words
 
 -- the mask has a mark for each byte of a list's code
-abbrev pub HasRoom : BlockList → Listing → Type 0
-HasRoom list code = length (code_of (four_each list) list).bytes ≤ 8 * length code.mask
+abbrev pub HasRoom : List ℕ → BlockList → Listing → Type 0
+HasRoom lengths list code = length (code_of lengths list).bytes ≤ 8 * length code.mask
 
 -- an instruction at a position, whose offset, if it has one, leads to the start of a block
 abbrev pub instr_at : ℕ → Instr → Option ℕ → List ℕ → Instr

@@ -1,5 +1,5 @@
--- The code of a list of blocks: first a jump for each entry, then the blocks, one behind the other. How many bytes an
--- offset takes stands in a list beside the blocks, a length for each: only a block's last instruction has an offset.
+-- The code of a list of blocks: first a jump for each entry, then the blocks, one after another. The number of bytes of
+-- each offset is in a list beside the blocks, a length for each: only a block's last instruction has an offset.
 use Rattle.std.specs.Prelude.{ℕ, ◌+◌, ◌-◌, ◌*◌, ◌%◌, ◌^◌, List, [], ◌∷◌, ◌++◌, length, map, nat_lt, if◌then◌else◌, Bool, Option, Some, None}
 use Rattle.std.specs.List.{list_all}
 use Rattle.runs.specs.Joined.{joined, position}
@@ -11,7 +11,7 @@ use Rattle.pvm_ops.specs.Spelling.{spelling}
 use Rattle.pvm_ops.specs.Offsets.{with_offset}
 use Rattle.pvm_ops.specs.BlockList.{Block, BlockList}
 
--- how many bytes the offset of an entry's jump takes, and so far every other
+-- how many bytes the offset of an entry's jump takes
 abbrev pub offset_len : ℕ
 offset_len = 4
 
@@ -105,7 +105,3 @@ width_of table =
     else (if all_below (2 ^ 16) table then 2
     else (if all_below (2 ^ 24) table then 3
     else 4))
-
--- the lengths of the offsets of a list's blocks: so far all are four
-abbrev pub four_each : BlockList → List ℕ
-four_each list = map (λ b. offset_len) list.blocks

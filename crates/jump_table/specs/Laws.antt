@@ -1,17 +1,18 @@
--- The laws of placing that the link rests on: each instruction of a list of blocks stands at its position in the code,
+-- The laws of placing that the link rests on: each instruction of a list of blocks is at its position in the code,
 -- with the offset that leads to the start of its target.
-use Rattle.std.specs.Prelude.{◌≡◌, ℕ, ◌+◌, ◌*◌, ◌≤◌, ◌<◌, ◌^◌, List, ◌++◌, [], ◌∷◌, length, Bool, true, false, IsTrue, Option, Some, None, slice_get, slice_index}
+use Rattle.std.specs.Prelude.{◌≡◌, ℕ, ◌+◌, ◌*◌, ◌<◌, ◌^◌, List, ◌++◌, [], ◌∷◌, length, Bool, true, false, IsTrue, Option, Some, None, slice_get, slice_index}
 use Rattle.std.specs.List.{AllByRecursion}
 use Rattle.numbers.specs.Words.{sum_64}
 use Rattle.pvm_ops.specs.declared.instr.Instr.{Instr}
 use Rattle.pvm_ops.specs.Listing.{Listing, is_marked}
 use Rattle.pvm_ops.specs.Opcodes.{is_known, form_of}
 use Rattle.pvm_ops.specs.Fetch.{fetch_of}
-use Rattle.pvm_ops.specs.Spelling.{IsEncodable, FitsBytes}
+use Rattle.pvm_ops.specs.Spelling.{IsEncodable}
 use Rattle.pvm_ops.specs.Offsets.{offset_of, has_offset}
 use Rattle.pvm_ops.specs.BlockList.{Block, BlockList}
 use Rattle.blob_check.specs.Starts.{is_terminator, is_start}
-use Rattle.jump_table.specs.Assembly.{Member, offset_len, entry_len, jump, members_of, instrs_of, instr_position, start_of, offset, placed_instr, code_of, four_each}
+use Rattle.jump_table.specs.Assembly.{Member, offset_len, entry_len, jump, members_of, instrs_of, instr_position, start_of, offset, placed_instr, code_of}
+use Rattle.jump_table.specs.Lengths.{IsWide, AreLengths}
 
 -- an instruction that can be placed, with whatever offset
 pub record IsPlaceable (i : Instr) : Type 0 where
@@ -51,24 +52,14 @@ pub record IsAssemblable (list : BlockList) : Type 0 where
 abbrev pub AreEnded : BlockList → Type 0
 AreEnded list = (block : ℕ) (b : Block) (front : List Instr) (last : Instr) → slice_get list.blocks block ≡ Some b → b.instrs ≡ front ++ last ∷ [] → is_terminator last.op ≡ true
 
--- lengths of at most four bytes that are wide enough: each offset fits its length
-pub record IsWide (list : BlockList) (lengths : List ℕ) : Type 0 where
-  pub few : (block len : ℕ) → slice_get lengths block ≡ Some len → len ≤ 4
-  pub fits : (number target : ℕ) (m : Member) → slice_get (members_of lengths list) number ≡ Some m → m.target ≡ Some target → has_offset (form_of m.instr.op) ≡ true
-      → FitsBytes m.len (offset (instr_position lengths list number) (start_of lengths list target))
-
--- the lengths of a list's offsets: so far all are four
-abbrev pub AreLengths : BlockList → List ℕ → Type 0
-AreLengths list lengths = lengths ≡ four_each list
-
--- the instruction stands at a position of the code, and another position is behind it
+-- the instruction is at a position of the code, and the next one at another position
 pub record Fetches (code : Listing) (at : ℕ) (i : Instr) (next : ℕ) : Type 0 where
   pub marked : is_marked code at ≡ true
   pub known : IsTrue (is_known (slice_index code.bytes at))
   pub fetched : fetch_of code at ≡ record { instr = i; next = next }
 
--- What stands where in the code of a list: the jump of each entry; each instruction, with its offset, which leads to the
--- start of its target; nothing behind the last; and a block starts where each block of the list does, so at each target.
+-- What is where in the code of a list: the jump of each entry; each instruction, with its offset, which leads to the
+-- start of its target; nothing after the last; and a block starts where each block of the list does, so at each target.
 pub record IsPlaced (lengths : List ℕ) (list : BlockList) (code : Listing) : Type 0 where
   pub entries : (entry block : ℕ) → slice_get list.entries entry ≡ Some block → Fetches code (entry_len * entry) (jump (offset (entry_len * entry) (start_of lengths list block))) (entry_len * (entry + 1))
   pub instrs : (number : ℕ) (m : Member) → slice_get (members_of lengths list) number ≡ Some m → Fetches code (instr_position lengths list number) (placed_instr lengths list number m.target m.instr) (instr_position lengths list (number + 1))
@@ -82,11 +73,11 @@ pub record IsPlaced (lengths : List ℕ) (list : BlockList) (code : Listing) : T
 abbrev pub CodeIsPlaced : Type 0
 CodeIsPlaced = (lengths : List ℕ) (list : BlockList) → IsAssemblable list → IsWide list lengths → length (code_of lengths list).bytes < 2 ^ 31 → IsPlaced lengths list (code_of lengths list)
 
--- offsets of four bytes are wide enough where the code has less than 2^31
-abbrev pub FoursAreWide : Type 0
-FoursAreWide = (lengths : List ℕ) (list : BlockList) → AreLengths list lengths → length (code_of lengths list).bytes < 2 ^ 31 → IsWide list lengths
+-- a list has at most one assignment of the shortest lengths
+abbrev pub LengthsAreOne : Type 0
+LengthsAreOne = (list : BlockList) (lengths others : List ℕ) → AreLengths list lengths → AreLengths list others → lengths ≡ others
 
--- the last instruction of a block with a target stands at the block's end and leads to where its target starts
+-- the last instruction of a block with a target is at the block's end and leads to the start of its target
 pub record LeadsTo (lengths : List ℕ) (list : BlockList) (code : Listing) (block target : ℕ) : Type 0 where
   pub at : ℕ
   pub last : Instr

@@ -1,3 +1,5 @@
 pub mod Assembly
+pub mod Lengths
 pub mod Laws
 pub mod Assembling
+pub mod Shapes

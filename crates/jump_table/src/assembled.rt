@@ -36,7 +36,7 @@ impl Assembled {
         self.code.as_slice()
     }
 
-    /// A bit for each byte of the code, the lowest bit of a byte first, set where an instruction starts.
+    /// One bit per byte of the code, least significant bit first, set where an instruction starts.
     pub fn mask(&self) -> &[u8]
         ensures { result.now ≡ self.now.code.mask }
     {
@@ -66,9 +66,9 @@ impl Assembled {
     }
 }
 
-/// The code of blocks: a jump for each entry, then the blocks in order, where each offset takes four bytes.
+/// The code of blocks: a jump for each entry, then the blocks in order, where each offset takes as few bytes as it can.
 ///
-/// There is none where the code would have more than 2^25 bytes.
+/// The offset of an entry's jump takes four bytes. There is no code where it would have more than 2^25 bytes.
 pub fn assemble(alloc: Global, blocks: &Blocks) -> Result<Assembled, AssembleFault>
     requires { IsAssemblable blocks.now }
     ensures { MatchResult result (Assembles blocks.now) (Refuses blocks.now) }
@@ -77,7 +77,11 @@ pub fn assemble(alloc: Global, blocks: &Blocks) -> Result<Assembled, AssembleFau
     let (code, mask) = write(alloc, blocks, &positions)?.into_parts();
     let table = table(alloc, blocks.needed(), &positions.starts)?;
     let width = width(&table);
-    let Positions { starts, end: _ } = positions;
+    let Positions {
+        lengths: _,
+        starts,
+        end: _,
+    } = positions;
     Ok(Assembled {
         code,
         mask,

@@ -49,15 +49,14 @@ fn assembles_a_loop(rt: HostRuntime) -> Result<(), Fail> {
         panic!(rt; "no code");
     };
     let code = [
-        0x28, 0x05, 0x00, 0x00, 0x00, 0x95, 0x88, 0xff, 0x52, 0x08, 0xfd, 0xff, 0xff, 0xff, 0x32,
-        0x00,
+        0x28, 0x05, 0x00, 0x00, 0x00, 0x95, 0x88, 0xff, 0x52, 0x08, 0xfd, 0x32, 0x00,
     ];
     assert_eq!(rt; assembled.code(), code.as_slice());
-    assert_eq!(rt; assembled.mask(), [0x21, 0x41].as_slice());
-    assert_eq!(rt; assembled.table(), [14].as_slice());
+    assert_eq!(rt; assembled.mask(), [0x21, 0x09].as_slice());
+    assert_eq!(rt; assembled.table(), [11].as_slice());
     assert_eq!(rt; assembled.width(), 1);
     assert_eq!(rt; assembled.start(0), 5);
-    assert_eq!(rt; assembled.start(1), 14);
+    assert_eq!(rt; assembled.start(1), 11);
     Ok(())
 }
 

@@ -2,10 +2,8 @@ ghost use Rattle.std.specs.Prelude.{◌≡◌, ◌*◌, ◌/◌, ◌<◌, [], le
 ghost use Rattle.pvm_ops.specs.Listing.{packed};
 ghost use Rattle.pvm_ops.specs.Opcodes.{is_known};
 ghost use Rattle.pvm_ops.specs.Spelling.{spelling, IsEncodable};
-ghost use Rattle.jump_table.specs.Assembly.{offset_len};
 ghost use Rattle.jump_table.specs.Assembling.{with_mark, with_word};
 
-use crate::positions::OFFSET_LEN;
 use pvm_ops::{Bytes8, Instr, encode_into};
 use std::alloc::{AllocError, Global};
 use std::marker::Model;
@@ -43,15 +41,15 @@ impl Writer {
         self.bytes.len()
     }
 
-    /// Adds an instruction at the end, with a mark at its first byte.
-    pub(crate) fn place(&mut self, instr: &Instr) -> Result<(), AllocError>
+    /// Adds an instruction at the end, with an offset of `len` bytes, and a mark at its first byte.
+    pub(crate) fn place(&mut self, instr: &Instr, len: u8) -> Result<(), AllocError>
         requires known { IsTrue (is_known instr.now.op) }
-        requires encodable { IsEncodable instr.now offset_len }
+        requires encodable { IsEncodable instr.now len }
         requires room { length self.old.bytes < 8 * length self.old.mask }
-        ensures { OnOk result (self.new ≡ with_word self.old (spelling instr.now offset_len)) }
+        ensures { OnOk result (self.new ≡ with_word self.old (spelling instr.now len)) }
     {
         let start = self.bytes.len();
-        encode_into(instr, OFFSET_LEN, &mut self.bytes)?;
+        encode_into(instr, len, &mut self.bytes)?;
         set_mark(&mut self.mask, start);
         Ok(())
     }

@@ -1,12 +1,12 @@
-ghost use Rattle.std.specs.Prelude.{◌≡◌, ℕ, ◌+◌, ◌*◌, ◌%◌, ◌^◌, ◌<◌, ◌≤◌, length, IsTrue, IfSome, IfOk, OnOk};
+ghost use Rattle.std.specs.Prelude.{◌≡◌, ℕ, ◌+◌, ◌*◌, ◌%◌, ◌^◌, ◌<◌, ◌≤◌, length, slice_index, IsTrue, IfSome, IfOk, OnOk};
 ghost use Rattle.pvm_ops.specs.Opcodes.{is_known, form_of};
 ghost use Rattle.pvm_ops.specs.Offsets.{with_offset};
 ghost use Rattle.pvm_ops.specs.BlockList.{block_at};
-ghost use Rattle.jump_table.specs.Assembly.{offset_len, entry_len, jump, members, members_of, first_of, words, start_of, offset, entry_jumps, placed, code_of, four_each};
+ghost use Rattle.jump_table.specs.Assembly.{entry_len, jump, members, members_of, first_of, words, start_of, offset, entry_jumps, placed, code_of};
 ghost use Rattle.jump_table.specs.Laws.{IsAssemblable};
 ghost use Rattle.jump_table.specs.Assembling.{ArePositions, HasRoom, instr_at, with_words};
 
-use crate::positions::Positions;
+use crate::positions::{OFFSET_LEN, Positions};
 use crate::writer::Writer;
 use pvm_ops::{Blocks, Form, Instr, form};
 use std::alloc::{AllocError, Global};
@@ -21,8 +21,8 @@ pub(crate) fn write(
     positions: &Positions,
 ) -> Result<Writer, AllocError>
     requires blocks { IsAssemblable blocks.now }
-    requires positions { ArePositions blocks.now positions.now.starts.items positions.now.end }
-    ensures { IfOk result (λ writer. writer ≡ code_of (four_each blocks.now) blocks.now) }
+    requires positions { ArePositions blocks.now positions.now.lengths.items positions.now.starts.items positions.now.end }
+    ensures { IfOk result (λ writer. writer ≡ code_of positions.now.lengths.items blocks.now) }
 {
     let mut writer = Writer::new(alloc, positions.end)?;
     write_entries(blocks, positions, &mut writer)?;
@@ -37,14 +37,14 @@ fn write_entries(
     writer: &mut Writer,
 ) -> Result<(), AllocError>
     requires blocks { IsAssemblable blocks.now }
-    requires positions { ArePositions blocks.now positions.now.starts.items positions.now.end }
-    requires room { HasRoom blocks.now writer.old }
+    requires positions { ArePositions blocks.now positions.now.lengths.items positions.now.starts.items positions.now.end }
+    requires room { HasRoom positions.now.lengths.items blocks.now writer.old }
     requires empty { length writer.old.bytes ≡ 0 }
-    ensures { OnOk result (writer.new ≡ with_words writer.old (words (entry_jumps (four_each blocks.now) blocks.now 0 blocks.now.entries))) }
+    ensures { OnOk result (writer.new ≡ with_words writer.old (words (entry_jumps positions.now.lengths.items blocks.now 0 blocks.now.entries))) }
 {
     for block in blocks.entries() {
         let offset = offset(writer.len(), positions.starts[*block as usize]);
-        writer.place(&jump(offset))?;
+        writer.place(&jump(offset), OFFSET_LEN)?;
     }
     Ok(())
 }
@@ -56,10 +56,10 @@ fn write_blocks(
     writer: &mut Writer,
 ) -> Result<(), AllocError>
     requires blocks { IsAssemblable blocks.now }
-    requires positions { ArePositions blocks.now positions.now.starts.items positions.now.end }
-    requires room { HasRoom blocks.now writer.old }
+    requires positions { ArePositions blocks.now positions.now.lengths.items positions.now.starts.items positions.now.end }
+    requires room { HasRoom positions.now.lengths.items blocks.now writer.old }
     requires after { length writer.old.bytes ≡ entry_len * length blocks.now.entries }
-    ensures { OnOk result (writer.new ≡ with_words writer.old (words (placed (four_each blocks.now) blocks.now 0 (members_of (four_each blocks.now) blocks.now)))) }
+    ensures { OnOk result (writer.new ≡ with_words writer.old (words (placed positions.now.lengths.items blocks.now 0 (members_of positions.now.lengths.items blocks.now)))) }
 {
     for block in 0..blocks.len() {
         write_block(blocks, block, positions, writer)?;
@@ -76,15 +76,16 @@ fn write_block(
 ) -> Result<(), AllocError>
     requires blocks { IsAssemblable blocks.now }
     requires block { block < length blocks.now.blocks }
-    requires positions { ArePositions blocks.now positions.now.starts.items positions.now.end }
-    requires room { HasRoom blocks.now writer.old }
-    requires start { length writer.old.bytes ≡ start_of (four_each blocks.now) blocks.now block }
-    ensures { OnOk result (writer.new ≡ with_words writer.old (words (placed (four_each blocks.now) blocks.now (first_of blocks.now block) (members offset_len (block_at blocks.now block))))) }
+    requires positions { ArePositions blocks.now positions.now.lengths.items positions.now.starts.items positions.now.end }
+    requires room { HasRoom positions.now.lengths.items blocks.now writer.old }
+    requires start { length writer.old.bytes ≡ start_of positions.now.lengths.items blocks.now block }
+    ensures { OnOk result (writer.new ≡ with_words writer.old (words (placed positions.now.lengths.items blocks.now (first_of blocks.now block) (members (slice_index positions.now.lengths.items block) (block_at blocks.now block))))) }
 {
     let target = blocks.target(block);
+    let len = positions.lengths[block as usize];
     for instr in blocks.block(block) {
         let instr = instr_at(writer.len(), instr, target, &positions.starts);
-        writer.place(&instr)?;
+        writer.place(&instr, len)?;
     }
     Ok(())
 }

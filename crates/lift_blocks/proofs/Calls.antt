@@ -1,7 +1,7 @@
--- A call of the host begins a block, and the block goes on behind it: a call is the first operation of a stub, and nothing
--- leads to the second but the first.
-use Rattle.std.proofs.Common.{◌≡◌, ℕ, zero, suc, ◌+◌, ◌<◌, Bool, true, false, cond, List, [], ◌∷◌, ◌++◌, length, map, get_or, Option, Some, None, refl, sym, ap, ◌∙◌, subst, arith, add-one, ℤ}
-use Rattle.std.specs.Prelude.{slice_get, if◌then◌else◌, not, ◌&&◌, ◌||◌, nat_eq}
+-- A host call begins a block, and the block goes on after it: a call is the first operation of a stub, and nothing leads
+-- to the second but the first.
+use Rattle.std.proofs.Common.{◌≡◌, ℕ, zero, suc, ◌+◌, Bool, true, false, cond, List, [], ◌∷◌, ◌++◌, length, map, get_or, Option, Some, None, refl, sym, ap, ◌∙◌, subst, arith, add-one, ℤ}
+use Rattle.std.specs.Prelude.{slice_get, if◌then◌else◌, ◌&&◌, ◌||◌, nat_eq}
 use Rattle.std.specs.List.{AllByRecursion, filter, filter_map, cons_option, range_with_len}
 use Rattle.std.specs.Option.{option_map}
 use Rattle.std.proofs.lemmas.Bool.{ne_eqb}
@@ -13,8 +13,6 @@ use Rattle.rv_decode.specs.declared.ops.Reg.{Reg}
 use Rattle.rv_decode.specs.declared.ops.Reg.TheVariants.{Zero, R}
 use Rattle.rv_decode.specs.declared.ops.RvOp.{RvOp}
 use Rattle.rv_decode.specs.declared.ops.RvOp.TheVariants as rv
-use Rattle.symbols.specs.declared.wanted.ImportKind.{ImportKind}
-use Rattle.symbols.specs.declared.wanted.ImportKind.TheVariants.{Host, Sbrk as ImportSbrk}
 use Rattle.symbols.specs.declared.place.Place.{Place}
 use Rattle.symbols.specs.declared.place.Place.TheVariants as names
 use Rattle.symbols.specs.Parts.{object_at}
@@ -24,7 +22,7 @@ use Rattle.layout.specs.Slots.{loaded_relocations}
 use Rattle.relocs.specs.declared.operand.Operand.{Operand}
 use Rattle.relocs.specs.declared.operand.Operand.TheVariants.{Nothing, Value, Target}
 use Rattle.relocs.specs.Kinds.{names_address}
-use Rattle.relocs.specs.Places.{CodePlace, Code, Stub, Nowhere, same_place, has}
+use Rattle.relocs.specs.Places.{CodePlace, Code, Stub, Nowhere, has}
 use Rattle.relocs.specs.Words.{raw_at}
 use Rattle.relocs.specs.Pairs.{is_pair, is_pair_at, all_places, next_place}
 use Rattle.relocs.specs.CodeMap.{place_of}
@@ -38,7 +36,7 @@ use Rattle.lift_blocks.proofs.TargetPlaces.{pair_leads, stub_leads, nowhere_lead
 
 -- ---- no operation names the second place of a stub
 
--- a place that isn't behind the first of a stub
+-- a place that isn't after the first of a stub
 abbrev IsNoReturn : CodePlace → Type 0
 IsNoReturn (Code o s offset) = Unit {0}
 IsNoReturn (Stub n zero) = Unit {0}

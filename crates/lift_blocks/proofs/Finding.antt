@@ -108,7 +108,7 @@ slice_get-map f [] i x e = absurd cc
 slice_get-map f (y ∷ xs) zero x e = (let same : y ≡ x = cc in rw same refl)
 slice_get-map f (y ∷ xs) (suc i) x e = slice_get-map f xs i x e
 
--- one step of the search: the middle place stands before the one that is looked for, or it doesn't
+-- one step of the search: the middle place is before the one that is looked for, or it isn't
 pub low_more :
     (places : List CodePlace) (p m : CodePlace) (middle : ℕ) → Ascends places → slice_get places middle ≡ Some m → rank_of m < rank_of p
     → (k : ℕ) (q : CodePlace) → k < middle + 1 → slice_get places k ≡ Some q → rank_of q < rank_of p
@@ -134,7 +134,7 @@ mapped_past [] i q le e = absurd cc
 mapped_past (p ∷ ps) zero q le e = omega (arith, le)
 mapped_past (p ∷ ps) (suc i) q le e = mapped_past ps i q (omega (arith, le)) e
 
--- one element stands at one index
+-- there is one element at one index
 pub some_same : {A : Type 0} {o : Option A} {x y : A} → o ≡ Some x → o ≡ Some y → x ≡ y
 some_same e f = cc
 

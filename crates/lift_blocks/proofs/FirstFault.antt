@@ -140,7 +140,7 @@ least_codes given o s f =
 
 -- ---- operations without relocations
 
--- such an operation has no fault by itself
+-- such an operation has no fault of its own
 pub complete_codes : (given : Given) (o s f : ℕ) (op : Option RvOp) → is_complete op ≡ true → operation_codes given o s f op [] ≡ []
 complete_codes given o s f None e = refl
 complete_codes given o s f (Some (rv.Lui rd value)) e = refl

@@ -33,7 +33,7 @@ filter_map-map : {X Y Z : Type 0} (h : Y → Option Z) (f : X → Y) (xs : List 
 filter_map-map h f [] = refl
 filter_map-map h f (x ∷ xs) = ap (cons_option (h (f x))) (filter_map-map h f xs)
 
-or_swap : (a b : Bool) → (a || b) ≡ (b || a)
+pub or_swap : (a b : Bool) → (a || b) ≡ (b || a)
 or_swap true true = refl
 or_swap true false = refl
 or_swap false true = refl

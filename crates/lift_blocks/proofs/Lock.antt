@@ -64,7 +64,7 @@ past_le [] q e = omega arith
 past_le (x ∷ xs) zero e = absurd cc
 past_le (x ∷ xs) (suc q) e = let r = past_le xs q e in omega arith
 
--- the lock of the source machine
+-- the lockstep simulation of the source machine
 pub lock : SourceLock
 unfolding operation_in
 lock given lifted h = record { stands = stands; past = past }

@@ -42,7 +42,7 @@ once_filter test (x ∷ xs) f = by_test (test x) (all_filter (λ y. x ≡ y → 
     by_test true g h = (g, h)
     by_test false g h = h
 
--- elements that are told apart by what holds of them
+-- elements that differ by what holds of them
 once_append : {A : Type 0} (P Q : A → Type 0) (xs ys : List A) → AllByRecursion P xs → AllByRecursion Q ys → ((x : A) → P x → Q x → ⊥) → IsOnce xs → IsOnce ys → IsOnce (xs ++ ys)
 once_append P Q [] ys f g h a b = b
 once_append P Q (x ∷ xs) ys f g h a b =

@@ -1,4 +1,4 @@
--- All places stand in the order of their ranks.
+-- All places are in the order of their ranks.
 use Rattle.std.proofs.Common.{◌≡◌, ℕ, zero, suc, ◌+◌, ◌*◌, ◌/◌, ◌^◌, ◌<◌, ◌≤◌, Bool, true, false, List, [], ◌∷◌, ◌++◌, length, Option, Some, None, refl, ap, arith}
 use Rattle.std.specs.Prelude.{slice_get, cond, not, if◌then◌else◌}
 use Rattle.std.specs.List.{filter, list_any}

@@ -23,7 +23,7 @@ pub record AreAll (given : Given) (places : List CodePlace) : Type 0 where
   pub ascend : Ascends places
   pub known : AreKnown given places
 
--- a place that the address map may have: of a stub the first operation alone
+-- a place that the address map may have: in a stub the first operation alone
 abbrev pub IsMappable : CodePlace → Type 0
 IsMappable (Code o s offset) = Unit {0}
 IsMappable (Stub n at) = at ≡ 0

@@ -74,7 +74,7 @@ target_in (Some op) = target_of op
 abbrev pub target_at : Given → CodePlace → Option CodePlace
 target_at given p = target_in (operation_at given p)
 
--- the places that begin a block wherever they stand: entries, targets and needed places
+-- the places that always begin a block: entries, targets and needed places
 abbrev pub aimed_places : Given → List CodePlace
 aimed_places given = entry_places given ++ filter_map (target_at given) (all_places given) ++ needed_places given
 

@@ -1,4 +1,4 @@
--- The order of all places, by numbers: code by object, section and offset, and behind it the operations of the stubs.
+-- The order of all places, by numbers: code by object, section and offset, and after it the operations of the stubs.
 use Rattle.std.specs.Prelude.{◌≡◌, ℕ, ◌+◌, ◌*◌, ◌^◌, ◌<◌, ◌≤◌, List, length, Option, Some, None, Bool, false, slice_get}
 use Rattle.symbols.specs.Parts.{object_at}
 use Rattle.symbols.specs.Wanted.{Given, kept_objects}

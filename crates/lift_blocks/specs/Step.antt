@@ -90,7 +90,7 @@ abbrev pub behind : Given → CodePlace → Option (Operation CodePlace) → Opt
 behind given p None = None
 behind given p (Some op) = Some (record { instr = op; next = next_place given p })
 
--- the operation at a place, and the place behind it
+-- the operation at a place, and the place after it
 abbrev pub fetch_op : Given → CodePlace → Option (Fetched (Operation CodePlace) CodePlace)
 fetch_op given p = behind given p (operation_at given p)
 

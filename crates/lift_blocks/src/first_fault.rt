@@ -219,6 +219,7 @@ impl CodeFaults<'_, '_> {
 
     /// The fault at an offset, which is most likely a word without one.
     #[tactic(auto, using(crate::proofs::PlainWords::no_fault_at))]
+    #[inline(always)]
     fn fault_at_word(&self, object: u32, section: u32, offset: u64) -> Option<Fault>
         ghost given: { Given }
         requires code { IsCodeOf given self.now }
@@ -238,6 +239,7 @@ impl CodeFaults<'_, '_> {
     }
 
     /// Whether there is an operation at an offset that needs nothing else and is in no pair, and no relocation.
+    #[inline(always)]
     fn is_plain(&self, object: u32, section: u32, offset: u64) -> bool
         ghost given: { Given }
         requires code { IsCodeOf given self.now }
@@ -331,6 +333,7 @@ fn is_complete(op: Option<RvOp>) -> bool
 }
 
 /// Whether an operation needs nothing else, and is no word of a pair.
+#[inline(always)]
 fn is_alone(op: Option<RvOp>) -> bool
     ensures { result ≡ is_it_alone op }
 {

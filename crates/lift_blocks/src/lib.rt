@@ -40,7 +40,7 @@ pub fn bounds_stay()
     ensures { BoundsStay }
 {}
 
-/// A call of the host begins a block, and has an operation behind it in its block.
+/// A host call begins a block, and has an operation after it in its block.
 pub fn calls_begin_blocks()
     ensures { CallsBeginBlocks }
 {}

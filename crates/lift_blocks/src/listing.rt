@@ -63,11 +63,11 @@ pub(crate) fn list(
     requires imports { imports ≡ length given.wanted.imports }
     ensures { IfOk result (IsLifted given) }
 {
-    let aimed = aimed_marks(alloc, survey)?;
+    let needed = chosen(alloc, survey.places, survey.needed)?;
+    let aimed = aimed_marks(alloc, survey, &needed)?;
     let emitted = emitted_marks(alloc, reader, survey, &aimed)?;
     let places = chosen(alloc, survey.places, &emitted)?;
     let aimed = chosen(alloc, &aimed, &emitted)?;
-    let needed = chosen(alloc, survey.places, survey.needed)?;
     let numbers = Numbers { places: &places };
     let ops = numbers.operations(alloc, survey.ops, &emitted)?;
     let begins = begins(alloc, &ops, &aimed)?;
@@ -105,22 +105,21 @@ fn lifted(
 }
 
 /// Whether each place begins a block wherever it is: as an entry, as a target or as a needed place.
-fn aimed_marks(alloc: Global, survey: &Survey<'_>) -> Result<Vec<bool>, AllocError>
+fn aimed_marks(alloc: Global, survey: &Survey<'_>, needed: &[Site]) -> Result<Vec<bool>, AllocError>
     ghost given: { Given }
     requires places { AreAll given (map site_of survey.now.places.now) }
     requires ops { AreOperations given (all_places given) survey.now.ops.now }
-    requires needed { survey.now.needed.now ≡ map (has (named_places given)) (all_places given) }
+    requires needed { map site_of needed.now ≡ needed_places given }
     requires entries { map site_of survey.now.entries.now ≡ entry_places given }
     ensures { IfOk result (λ marks. marks.items ≡ map (has (aimed_places given)) (all_places given)) }
 {
-    let needed = chosen(alloc, survey.places, survey.needed)?;
     let mut marks = no_marks(alloc, survey.places)?;
     mark_aimed(
         survey.places,
         &mut marks,
         survey.entries,
         survey.ops,
-        &needed,
+        needed,
     );
     Ok(marks)
 }
@@ -213,15 +212,19 @@ fn kept_marks(
 {
     let mut emitted = Vec::with_capacity(alloc, places.len())?;
     for at in 0..places.len() {
-        emitted.push(unless_end(is_end(reader, places[at]), reached[at]))?;
+        emitted.push(is_kept(reader, places[at], reached[at]))?;
     }
     Ok(emitted)
 }
 
-fn unless_end(end: bool, reached: bool) -> bool
-    ensures { result ≡ (not end || reached) }
+/// Whether a place is listed. Of a place that is reached, as most are, it isn't asked whether it is an end.
+fn is_kept(reader: &Reader<'_, '_>, place: Site, reached: bool) -> bool
+    ghost given: { Given }
+    requires tables { AreTables given reader.now.objects.now reader.now.tables.now }
+    requires known { IsKnown given (site_of place) }
+    ensures { result ≡ (reached || not (is_the_end given (site_of place))) }
 {
-    !end || reached
+    reached || !is_end(reader, place)
 }
 
 /// Marks the places that the operation before can go on to.

@@ -21,6 +21,7 @@ pub(crate) fn no_marks(alloc: Global, places: &[Site]) -> Result<Vec<bool>, Allo
 }
 
 /// Marks a place, where it is among these, by an index that it is likely near.
+#[inline(always)]
 pub(crate) fn mark(places: &[Site], marks: &mut [bool], place: Site, near: usize)
     requires ascends { Ascends (map site_of places.now) }
     requires count { length marks.old ≡ length places.now }
@@ -33,6 +34,7 @@ pub(crate) fn mark(places: &[Site], marks: &mut [bool], place: Site, near: usize
 }
 
 /// Marks a place, if there is one.
+#[inline(always)]
 pub(crate) fn mark_any(places: &[Site], marks: &mut [bool], place: Option<Site>, near: usize)
     requires ascends { Ascends (map site_of places.now) }
     requires count { length marks.old ≡ length places.now }
@@ -44,6 +46,7 @@ pub(crate) fn mark_any(places: &[Site], marks: &mut [bool], place: Option<Site>,
     mark(places, marks, place, near);
 }
 
+#[inline]
 fn push_if<T: Copy + Drop>(items: &mut Vec<T>, marked: bool, item: T) -> Result<(), AllocError>
     ensures { OnOk result (items.new.items ≡ items.old.items ++ (if marked then item ∷ [] else [])) }
 {

@@ -1,4 +1,4 @@
-//! What stands at offsets of code, and the places of code in code order. It needs no address map, which is made from it.
+//! The operations at offsets of code, and the places of code in code order. It needs no address map, which is made from it.
 
 ghost use Rattle.std.specs.Prelude.{◌≡◌, ◌<◌, ◌≤◌, ◌+◌, ◌^◌, ◌++◌, ◌∷◌, [], not, length, map, Some, OnOk, if◌then◌else◌};
 ghost use Rattle.std.specs.Option.{option_map};
@@ -29,6 +29,7 @@ pub(crate) struct Reader<'l, 'a> {
 
 impl Reader<'_, '_> {
     /// The operation at an offset of a code section, before relocation.
+    #[inline(always)]
     pub(crate) fn op_at(&self, object: u32, section: u32, offset: u64) -> Option<RvOp>
         ghost given: { Given }
         requires tables { AreTables given self.now.objects.now self.now.tables.now }
@@ -39,6 +40,7 @@ impl Reader<'_, '_> {
     }
 
     /// The number of bytes of a code section.
+    #[inline(always)]
     pub(crate) fn size(&self, object: u32, section: u32) -> usize
         ghost given: { Given }
         requires tables { AreTables given self.now.objects.now self.now.tables.now }
@@ -49,6 +51,7 @@ impl Reader<'_, '_> {
     }
 
     /// The relocations at an offset of a code section that change something, in table order.
+    #[inline(always)]
     pub(crate) fn relocations(&self, object: u32, section: u32, offset: u64) -> &[Relocation]
         ghost given: { Given }
         requires tables { AreTables given self.now.objects.now self.now.tables.now }
@@ -68,7 +71,8 @@ impl Reader<'_, '_> {
         self.tables.has_call(self.objects, object, section, offset)
     }
 
-    /// Whether a CALL may stand at an offset.
+    /// Whether a CALL is allowed at an offset.
+    #[inline(always)]
     pub(crate) fn can_call(&self, object: u32, section: u32, offset: u64) -> bool
         ghost given: { Given }
         requires tables { AreTables given self.now.objects.now self.now.tables.now }
@@ -80,7 +84,7 @@ impl Reader<'_, '_> {
         holds_auipc(first) && self.is_joined(first, object, section, offset)
     }
 
-    /// Whether a CALL may stand at an offset where an `auipc` is.
+    /// Whether a CALL is allowed at the offset of an `auipc`.
     fn is_joined(&self, first: Option<RvOp>, object: u32, section: u32, offset: u64) -> bool
         ghost given: { Given }
         requires tables { AreTables given self.now.objects.now self.now.tables.now }
@@ -95,6 +99,7 @@ impl Reader<'_, '_> {
 
     /// Whether a pair begins at an offset.
     #[tactic(auto, unfolding(relocs::specs::Pairs::is_pair_at))]
+    #[inline(always)]
     pub(crate) fn is_pair_at(&self, object: u32, section: u32, offset: u64) -> bool
         ghost given: { Given }
         requires tables { AreTables given self.now.objects.now self.now.tables.now }
@@ -105,7 +110,8 @@ impl Reader<'_, '_> {
         self.can_call(object, section, offset) && self.has_call(object, section, offset)
     }
 
-    /// Whether the second word of a pair stands at an offset.
+    /// Whether the second word of a pair is at an offset.
+    #[inline(always)]
     pub(crate) fn is_second(&self, object: u32, section: u32, offset: u64) -> bool
         ghost given: { Given }
         requires tables { AreTables given self.now.objects.now self.now.tables.now }
@@ -137,6 +143,7 @@ impl Reader<'_, '_> {
     }
 
     /// The place that the operation at a place keeps in a register, if it does.
+    #[inline(always)]
     pub(crate) fn link(&self, place: Site) -> Option<Site>
         ghost given: { Given }
         requires tables { AreTables given self.now.objects.now self.now.tables.now }
@@ -171,7 +178,7 @@ impl Reader<'_, '_> {
         }
     }
 
-    /// The word at an offset that decides where the machine goes on: of a pair the second.
+    /// The word that decides which place is next after an offset: the second word, for a pair.
     fn last_word(&self, object: u32, section: u32, offset: u64) -> Option<RvOp>
         ghost given: { Given }
         requires tables { AreTables given self.now.objects.now self.now.tables.now }
@@ -200,6 +207,7 @@ impl Reader<'_, '_> {
         ensures { OnOk result (map site_of places.new.items ≡ map site_of places.old.items ++ section_places given object section) }
     {
         let count = self.size(object, section) / 4 + 1;
+        places.reserve(count)?;
         for at in 0..count {
             let offset = 4 * at as u64;
             let second = self.is_second(object, section, offset);
@@ -259,6 +267,7 @@ impl Reader<'_, '_> {
     }
 }
 
+#[inline(always)]
 fn push_unless(places: &mut Vec<Site>, left_out: bool, site: Site) -> Result<(), AllocError>
     ensures { OnOk result (places.new.items ≡ places.old.items ++ (if not left_out then site ∷ [] else [])) }
 {
@@ -279,6 +288,7 @@ fn width(pair: bool) -> u64
 }
 
 /// Whether an operation, or a pair that begins with it, may keep a place in a register.
+#[inline(always)]
 fn may_link(op: Option<RvOp>) -> bool
     ensures { result ≡ may_it_link op }
 {

@@ -1,4 +1,4 @@
-//! Where a place stands among all places.
+//! The index of a place among all places.
 
 ghost use Rattle.std.specs.Prelude.{◌≡◌, ◌≤◌, length, map, nat_lt, slice_get};
 ghost use Rattle.std.specs.List.{position};
@@ -13,6 +13,7 @@ use crate::site::Site;
 const REACH: usize = 16;
 
 /// The index of a place among those in order, by an index that it is likely near.
+#[inline(always)]
 pub(crate) fn find(places: &[Site], place: Site, near: usize) -> Option<usize>
     requires { Ascends (map site_of places.now) }
     ensures { result ≡ position (same_place (site_of place)) (map site_of places.now) }
@@ -20,6 +21,15 @@ pub(crate) fn find(places: &[Site], place: Site, near: usize) -> Option<usize>
     if is_at(places, place, near) {
         return Some(near);
     }
+    find_around(places, place, near)
+}
+
+/// The index of a place among those in order, looked for around an index and then among all.
+#[inline(never)]
+fn find_around(places: &[Site], place: Site, near: usize) -> Option<usize>
+    requires { Ascends (map site_of places.now) }
+    ensures { result ≡ position (same_place (site_of place)) (map site_of places.now) }
+{
     let from = near.min(places.len()).saturating_sub(REACH);
     let around = first_from(
         places,
@@ -38,7 +48,8 @@ pub(crate) fn find(places: &[Site], place: Site, near: usize) -> Option<usize>
     }
 }
 
-/// Whether a place stands at an index.
+/// Whether a place is at an index.
+#[inline(always)]
 fn is_at(places: &[Site], place: Site, at: usize) -> bool
     ensures { result ≡ is_that (site_of place) (option_map site_of (slice_get places.now at)) }
 {
@@ -48,7 +59,7 @@ fn is_at(places: &[Site], place: Site, at: usize) -> bool
     }
 }
 
-/// The first index from one up to another at which no place before this stands.
+/// The first index of a range whose place isn't before this one.
 fn first_from(places: &[Site], place: Site, from: usize, to: usize) -> usize
     requires ascends { Ascends (map site_of places.now) }
     requires within { to ≤ length places.now }
@@ -67,7 +78,7 @@ fn first_from(places: &[Site], place: Site, from: usize, to: usize) -> usize
     low
 }
 
-/// Whether a place stands before another.
+/// Whether a place is before another.
 #[tactic(auto, unfolding(crate::specs::Rank::rank_of))]
 fn is_before(a: Site, b: Site) -> bool
     ensures { result ≡ nat_lt (rank_of (site_of a)) (rank_of (site_of b)) }
@@ -121,7 +132,7 @@ fn is_before(a: Site, b: Site) -> bool
     }
 }
 
-/// Where a place of code stands in code order.
+/// The rank of a place of code in code order.
 #[tactic(auto, unfolding(crate::specs::Rank::code_rank))]
 fn code_rank(object: u32, section: u32, offset: u64) -> u128
     ensures { result ≡ the_code_rank object section offset }
@@ -131,6 +142,7 @@ fn code_rank(object: u32, section: u32, offset: u64) -> u128
 }
 
 /// Whether two places are one.
+#[inline(always)]
 fn is_same(a: Site, b: Site) -> bool
     ensures { result ≡ same_place (site_of a) (site_of b) }
 {

@@ -1,4 +1,4 @@
--- A linked program agrees with its objects: the two locks and the stretches, composed.
+-- A linked program agrees with its objects: two lockstep simulations and the simulation steps between, composed.
 use Rattle.std.proofs.Common.{◌≡◌, ℕ, ◌+◌, ◌*◌, ◌^◌, ◌<◌, ◌≤◌, List, [], ◌∷◌, map, length, Some, refl, sym, ap, ◌∙◌, subst, arith, get_or, true, false, Bool}
 use Rattle.std.specs.Prelude.{slice_get, option_map, ◌&&◌}
 use Rattle.std.proofs.lemmas.Bool.{ltb-true}
@@ -34,12 +34,14 @@ use Rattle.pvm_machine.specs.Effect.{effect}
 use Rattle.pvm_machine.specs.Step.{land, does_at, instr_at}
 use Rattle.pvm_machine.specs.Laws.{EffectIsRenamed, EffectIsPlain, EffectIsNamed, EffectIsOfTarget, EffectIsAimed}
 use Rattle.jump_table.specs.Assembly.{entry_len, jump, offset, instr_position, start_of, code_of, table_of}
-use Rattle.jump_table.specs.Laws.{IsAssemblable, AreEnded, AreLengths, IsPlaced, CodeIsPlaced, FoursAreWide}
+use Rattle.jump_table.specs.Laws.{IsAssemblable, AreEnded, IsPlaced, CodeIsPlaced}
+use Rattle.jump_table.specs.Lengths.{AreLengths}
 use Rattle.lower.specs.Lowering.{lowered_blocks}
 use Rattle.lower.specs.Cutting.{pieces, first_piece, instr_does, instr_places}
 use Rattle.lower.specs.Laws.{LoweredIsCut, BlocksAreAll, EntriesBegin, BlocksStand, SameInstrs, SamePlaces, LoweredIsPlaceable}
-use Rattle.transcript.specs.Hosts.{start_host}
-use Rattle.link_core.specs.Hosts.{answers, HostFits}
+use Rattle.inner_machines.specs.CallRules.{CallsAnswerWell}
+use Rattle.transcript.specs.Hosts.{start_host, answering}
+use Rattle.link_core.specs.Hosts.{HostFits}
 use Rattle.link_core.specs.Runs.{source_run, machine_run, image_of}
 use Rattle.link_core.specs.Agrees.{Agrees}
 use Rattle.link_core.specs.Linked.{container_of}
@@ -63,7 +65,7 @@ start_within : (code : Listing) (at : ℕ) → is_start code at ≡ true → at 
 start_within code at e = marked_within code at (first_true _ _ (first_true _ _ e))
 
 module _ (source_lock : SourceLock) (bounds_stay : BoundsStay) (cut : LoweredIsCut) (blocks_are_all : BlocksAreAll) (entries_begin : EntriesBegin) (blocks_stand : BlocksStand) (same_instrs : SameInstrs)
-    (same_places : SamePlaces) (is_placeable : LoweredIsPlaceable) (is_placed : CodeIsPlaced) (fours_are_wide : FoursAreWide) (renamed : EffectIsRenamed) (no_target : EffectIsPlain) (named : EffectIsNamed) (of_target : EffectIsOfTarget) (to_target : EffectIsAimed) (start_is_good : StartIsGood) where
+    (same_places : SamePlaces) (is_placeable : LoweredIsPlaceable) (is_placed : CodeIsPlaced) (renamed : EffectIsRenamed) (no_target : EffectIsPlain) (named : EffectIsNamed) (of_target : EffectIsOfTarget) (to_target : EffectIsAimed) (start_is_good : StartIsGood) (calls_answer_well : CallsAnswerWell) where
   module _ (given : Given) (lengths : List ℕ) (lifted : Lifted) (is_lifted : IsLifted given lifted) (image : IsImage (image_of given)) (lengths_are : AreLengths (lowered_blocks lifted) lengths) (small : length (code_of lengths (lowered_blocks lifted)).bytes < 2 ^ 31) where
     abbrev list : BlockList
     list = lowered_blocks lifted
@@ -78,7 +80,7 @@ module _ (source_lock : SourceLock) (bounds_stay : BoundsStay) (cut : LoweredIsC
     ended = (is_placeable given lifted is_lifted).1
 
     placed : IsPlaced lengths list code
-    placed = is_placed lengths list assemblable (fours_are_wide lengths list lengths_are small) small
+    placed = is_placed lengths list assemblable lengths_are.wide small
 
     start_same : (t : ℕ) → start_of lengths list (block_of lifted.begins t) ≡ instr_position lengths list (instr_places lifted t)
     start_same t = ap (instr_position lengths list) (sym (same_places lifted (block_of lifted.begins t)))
@@ -151,10 +153,10 @@ module _ (source_lock : SourceLock) (bounds_stay : BoundsStay) (cut : LoweredIsC
           source_lies cut_there (turns_are_good fits host well) code_lies k d (record { at = entry_len * entry; of = d }) good (enters entry t d e))
 
     agrees_all : Agrees given (container_of given lengths lifted)
-    agrees_all serve well entry argument replies lt few are =
+    agrees_all entry argument replies lt few are =
         let same : length lifted.entries ≡ length given.wanted.entries = sym (length-map lifted.entries (place lifted.places)) ∙ ap length is_lifted.entries_are ∙ length-map-range_with_len _ 0 (length given.wanted.entries) in
         let heap_bound = (start_state (image_of given) argument).heap_bound in
-        agrees_from (answers serve) (HostFits heap_bound) (answers_well heap_bound serve (well heap_bound)) (start_host replies) entry (get_or lifted.entries entry 0) argument (start_fits (image_of given) argument replies are) (slice_get-get_or lifted.entries entry 0 (omega arith)) few
+        agrees_from answering (HostFits heap_bound) (answers_well calls_answer_well heap_bound) (start_host replies) entry (get_or lifted.entries entry 0) argument (start_fits (image_of given) argument replies are) (slice_get-get_or lifted.entries entry 0 (omega arith)) few
 
   -- the law of the link
   pub linked_agrees : LinkedAgrees

@@ -1,4 +1,4 @@
--- The lock of the PVM: the instructions by number are laid into the code by position.
+-- The lockstep simulation of the PVM: the instructions by number are placed in the code by position.
 use Rattle.std.proofs.Common.{◌≡◌, ℕ, ◌+◌, List, map, true, false, Bool, Option, Some, None, refl, sym, ap, ◌∙◌}
 use Rattle.std.specs.Prelude.{slice_get, option_map}
 use Rattle.std.proofs.lemmas.Option.{slice_get-map}
@@ -36,7 +36,7 @@ mapped_none : {X Y : Type 0} (f : X → Y) (x : Option X) → option_map f x ≡
 mapped_none f None e = refl
 mapped_none f (Some x) e = absurd cc
 
--- the machine goes on where it stands
+-- the machine goes on at its own position
 goes_same : (x : ℕ) (o : Outcome ℕ State End) → GoesOn x x o
 goes_same x (Next s) = refl
 goes_same x (Jump t s) = tt
@@ -81,7 +81,7 @@ module _ (lengths : List ℕ) (list : BlockList) (code : Listing) (assemblable :
       ∙ slice_get-map {B = InBlock} (λ a. record { instr = a.instr; target = option_map block a.target }) instrs q
       ∙ ap (option_map (λ a. record { instr = a.instr; target = option_map block a.target })) e)
 
-  -- an instruction without an offset does the same where it stands
+  -- an instruction without an offset does the same at its position
   plain_same : (at target : ℕ) (i : Instr) (s : State) → has_offset (form_of i.op) ≡ false → does_at table code (record { instr = i; at = at }) s ≡ retarget (λ t. instr_position lengths list (places t)) (effect needed target i s)
   plain_same at target i s none =
       let to = sum_64 at (offset_of (form_of i.op) i) in
@@ -102,7 +102,7 @@ module _ (lengths : List ℕ) (list : BlockList) (code : Listing) (assemblable :
       ∙ ap (land (is_start code)) (renamed (λ t. instr_position lengths list (places t)) needed target i s)
       ∙ lands_at (is_start code) (λ t. instr_position lengths list (places t)) target (effect needed target i s) (to_target needed target i s has) start
 
-  -- each instruction, with its offset, does the same where it stands
+  -- each instruction, with its offset, does the same at its position
   does_same : (q : ℕ) (m : Member) (o : Option ℕ) (s : State) → slice_get (members_of lengths list) q ≡ Some m → m.target ≡ option_map block o
       → does_at table code (record { instr = placed_instr lengths list q m.target m.instr; at = instr_position lengths list q }) s ≡ retarget (λ t. instr_position lengths list (places t)) (effect needed (or_zero o) m.instr s)
   does_same q m None s there e =
@@ -126,7 +126,7 @@ module _ (lengths : List ℕ) (list : BlockList) (code : Listing) (assemblable :
           rw (with_none (form_of m.instr.op) (offset (instr_position lengths list q) (start_of lengths list (block t))) m.instr none)
           (plain_same (instr_position lengths list q) t m.instr s none)
 
-  -- the instructions of a list stand in its code, do the same there, and nothing stands behind them
+  -- the instructions of a list are in its code, do the same there, and nothing comes after them
   pub code_lock : Laid (instr_does needed) (does_at table code) instrs places (instr_position lengths list) (instr_at code)
   code_lock = record { stands = stands_at; past = past_at }
     where

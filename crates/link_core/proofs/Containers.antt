@@ -24,7 +24,6 @@ use Rattle.pvm_ops.proofs.Padding.{packed_is_padded}
 use Rattle.pvm_ops.proofs.Masks.{length-packed}
 use Rattle.blob_codec.specs.Grammar.{natural_len, natural, Program, Container, program_bytes, IsProgram, IsContainer, container_bytes}
 use Rattle.jump_table.specs.Assembly.{words, code_members, code_of, table_of, width_of, all_below, first_of, start_of}
-use Rattle.jump_table.specs.Laws.{AreLengths}
 use Rattle.jump_table.specs.Assembling.{Assembles, AssembledCode}
 use Rattle.jump_table.proofs.BlockStarts.{position_within}
 use Rattle.lift_blocks.specs.Listed.{Lifted, IsLifted, Lifts}

@@ -1,4 +1,4 @@
--- The lines of data, one behind the other.
+-- The lines of data, one after another.
 use Rattle.std.proofs.Common.{◌≡◌, ℕ, ◌+◌, List, ◌++◌, sym, ap, ◌∙◌, add-one, append_assoc}
 use Rattle.std.proofs.lemmas.List.{append-nil}
 use Rattle.faults.specs.Present.{each_below}

@@ -27,8 +27,8 @@ use Rattle.lift_blocks.specs.declared.fault.LiftFault.{LiftFault}
 use Rattle.lift_blocks.specs.declared.fault.LiftFault.TheVariants as lifting
 use Rattle.lower.specs.Lowering.{lowered_blocks}
 use Rattle.pvm_ops.specs.BlockList.{BlockList}
-use Rattle.jump_table.specs.Assembly.{code_of, four_each}
-use Rattle.jump_table.specs.Laws.{AreLengths}
+use Rattle.jump_table.specs.Assembly.{code_of}
+use Rattle.jump_table.specs.Lengths.{IsWide}
 use Rattle.jump_table.specs.Assembling.{Assembles, AssembledCode, IsTooLarge as BlocksAreTooLarge}
 use Rattle.link_core.specs.Faults.{object_faults, input_of, content_faults, given_faults, IsTooLarge, HasNone, IsFirst, HasNoFault, HasFirstFault, Refuses}
 use Rattle.link_core.specs.Linked.{Linked, HoldsLinked}
@@ -90,10 +90,9 @@ module _ (given : Given) where
     -- and then too large a program
     pub size_first : (fault : Fault) → code_faults given ≡ [] → data_faults given ≡ [] → BlocksAreTooLarge (lowered_blocks lifted) → fault ≡ whole 32 → IsFirst (content_faults given) given fault
     size_first fault code in_data large is =
-        let lengths = four_each (lowered_blocks lifted) in
         inr (record {
           none_listed = none_listed code in_data;
-          large = record { lifted = lifted; is_lifted = is_lifted; lengths = lengths; lengths_are = refl; large = large lengths refl };
+          large = record { lifted = lifted; is_lifted = is_lifted; large = large };
           is = is;
         })
 
@@ -106,10 +105,10 @@ module _ (given : Given) where
     not_too_large : LiftedIsOne → (program : AssembledCode) → Assembles (lowered_blocks lifted) program → ¬ IsTooLarge given
     not_too_large lifted_is_one program assembled = λ (too : IsTooLarge given).
         let same : too.lifted ≡ lifted = lifted_is_one given too.lifted lifted too.is_lifted is_lifted in
-        let lengths : too.lengths ≡ assembled.lengths = too.lengths_are ∙ ap (λ l. four_each (lowered_blocks l)) same ∙ sym assembled.are_lengths in
-        let size : length (code_of too.lengths (lowered_blocks too.lifted)).bytes ≡ length program.code.bytes =
-        ap (λ l. length (code_of too.lengths (lowered_blocks l)).bytes) same ∙ ap (λ l. length (code_of l (lowered_blocks lifted)).bytes) lengths ∙ sym (ap (λ c. length c.bytes) assembled.code) in
-        absurd (omega (arith, too.large, size, assembled.size))
+        let wide : IsWide (lowered_blocks too.lifted) assembled.lengths = subst (λ l. IsWide (lowered_blocks l) assembled.lengths) (sym same) assembled.are_lengths.wide in
+        let size : length (code_of assembled.lengths (lowered_blocks too.lifted)).bytes ≡ length program.code.bytes =
+        ap (λ l. length (code_of assembled.lengths (lowered_blocks l)).bytes) same ∙ sym (ap (λ c. length c.bytes) assembled.code) in
+        absurd (omega (arith, too.large assembled.lengths wide, size, assembled.size))
 
     pub has_none : LiftedIsOne → (program : AssembledCode) → code_faults given ≡ [] → data_faults given ≡ [] → Assembles (lowered_blocks lifted) program → HasNone (content_faults given) given
     has_none lifted_is_one program code in_data assembled = record { none_listed = none_listed code in_data; small = not_too_large lifted_is_one program assembled }

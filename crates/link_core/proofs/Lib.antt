@@ -9,3 +9,4 @@ pub mod OneProgram
 pub mod Hosts
 pub mod CodeLock
 pub mod Agreement
+mod Checked

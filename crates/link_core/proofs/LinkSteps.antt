@@ -18,7 +18,7 @@ use Rattle.link_core.specs.LinkFaults.{of_object}
 use Rattle.link_core.specs.declared.link_fault.LinkFault.{LinkFault}
 use Rattle.faults.proofs.Steps.{first_in-map, first_in-found, each_below-more}
 
--- the first fault of a file behind files without one is that of all files
+-- the first fault of a file after files without one is that of all files
 pub file-fails : (files : List (List ℕ)) (at : ℕ) (file : List ℕ) (fault : ObjectFault) → at < length files → each_below at (λ i. faults_in_file i (slice_get files i)) ≡ [] → slice_get files at ≡ Some file → Refuses fault file at → LinkRefuses (λ f. first_in (object_faults files) ≡ Some f) (of_object fault)
 file-fails files at file Memory lt before e refuses = tt
 file-fails files at file (Bad fault) lt before e refuses =

@@ -1,4 +1,4 @@
--- The lines of a map, one behind the other, and the digits of their positions.
+-- The lines of a map, one after another, and the digits of their positions.
 use Rattle.std.proofs.Common.{◌≡◌, ℕ, zero, suc, ◌+◌, ◌/◌, ◌%◌, List, [], ◌∷◌, ◌++◌, take, length, Some, sym, ap, ◌∙◌, arith, append_assoc}
 use Rattle.std.specs.Prelude.{slice_get}
 use Rattle.std.specs.Char.{digit_char}
@@ -20,7 +20,7 @@ digits-more more count number digit old front new one first is last =
     ∙ append_assoc old (hex_digits count (number / 16)) (digit_char (number % 16) ∷ [])
     ∙ ap (λ n. old ++ hex_digits n number) next
 
--- the line of one more entry stands behind those of the entries before
+-- the line of one more entry comes after those of the entries before
 pub lines-more : (from : ℕ) (names : List (List ℕ)) (positions : List ℕ) (at : ℕ) (name : List ℕ) (position : ℕ) → slice_get names at ≡ Some name → slice_get positions at ≡ Some position → entry_lines from (take (suc at) names) (take (suc at) positions) ≡ entry_lines from (take at names) (take at positions) ++ entry_line (from + at) position name
 lines-more from [] positions at name position e f = absurd cc
 lines-more from (n ∷ names) [] at name position e f = absurd cc

@@ -11,8 +11,7 @@ use Rattle.symbols.specs.Faults.{symbol_faults}
 use Rattle.layout.specs.Faults.{whole, layout_faults}
 use Rattle.lift_blocks.specs.Listed.{Lifted, IsLifted}
 use Rattle.lower.specs.Lowering.{lowered_blocks}
-use Rattle.jump_table.specs.Assembly.{code_of}
-use Rattle.jump_table.specs.Laws.{AreLengths}
+use Rattle.jump_table.specs.Assembling.{IsTooLarge as BlocksAreTooLarge}
 use Rattle.relocs.specs.CodeFaults.{code_faults}
 use Rattle.relocs.specs.Data.{data_faults}
 use Rattle.link_core.specs.declared.linker.TheConstants.{CODE_BYTES_TOO_LARGE}
@@ -44,13 +43,12 @@ given_faults given = symbol_faults given followed_by layout_faults given followe
 abbrev pub listed_faults : List (List ℕ) → Wanted → List Fault
 listed_faults files wanted = object_faults files followed_by given_faults (input_of files wanted)
 
--- The program of the operations in code order has more than 2^25 bytes of code.
+-- The program of the operations in code order has more than 2^25 bytes of code, whatever wide enough lengths its offsets
+-- have.
 pub record IsTooLarge (given : Given) : Type 0 where
   pub lifted : Lifted
   pub is_lifted : IsLifted given lifted
-  pub lengths : List ℕ
-  pub lengths_are : AreLengths (lowered_blocks lifted) lengths
-  pub large : 2 ^ 25 < length (code_of lengths (lowered_blocks lifted)).bytes
+  pub large : BlocksAreTooLarge (lowered_blocks lifted)
 
 -- no fault is listed, and the program isn't too large
 pub record HasNone (listed : List Fault) (given : Given) : Type 0 where

@@ -9,7 +9,7 @@ use Rattle.lift_blocks.specs.Listed.{Lifted, IsLifted}
 use Rattle.lower.specs.Lowering.{lowered_blocks}
 use Rattle.pvm_ops.specs.BlockList.{BlockList}
 use Rattle.jump_table.specs.Assembly.{code_of, table_of, width_of}
-use Rattle.jump_table.specs.Laws.{AreLengths}
+use Rattle.jump_table.specs.Lengths.{AreLengths}
 use Rattle.jump_table.specs.Assembling.{AssembledCode}
 use Rattle.blob_codec.specs.Grammar.{Program, Container, IsContainer, container_bytes}
 use Rattle.link_core.specs.Agrees.{Agrees}
@@ -41,7 +41,8 @@ container_with given images assembled =
     (record { table = assembled.table; width = assembled.width; code = assembled.code })
 
 -- The container is that of the objects: their data at their addresses, and their operations in code order, cut into
--- blocks, lowered and placed. So it is determined by what the link was given.
+-- blocks, lowered and placed with the shortest offsets that are wide enough. So it is determined by what the link was
+-- given.
 pub record IsLinked (given : Given) (c : Container) : Type 0 where
   pub lifted : Lifted
   pub is_lifted : IsLifted given lifted

@@ -58,7 +58,7 @@ object_lines is_of given o =
 abbrev pub lines_of : (SectionKind → Bool) → Given → List ℕ
 lines_of is_of given = each_below (length (kept_objects given)) (object_lines is_of given)
 
--- the lines of all data, which stand in the order of their addresses
+-- the lines of all data, in the order of their addresses
 abbrev pub data_lines : Given → List ℕ
 data_lines given = lines_of is_read_only given ++ lines_of is_writable given ++ lines_of is_zero given
 

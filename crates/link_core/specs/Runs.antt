@@ -21,8 +21,8 @@ image_of given = record {
   stack = given.wanted.stack;
 }
 
--- So many steps of the objects, from the standard start with an argument, at the place of the entry with a number, and
--- with a host that holds something at the start.
+-- The first n steps of the objects, from the standard start with an argument, at the place of the entry with a number,
+-- with a host and its state at the start.
 abbrev pub source_run : {Held : Type 0} → Host Held → Held → Given → ℕ → List ℕ → ℕ → Steps Event End
 source_run host held given entry argument n =
     run (source_step host given) n (record { at = place (entry_places given) entry; of = record { state = start_state (image_of given) argument; held = held } })

@@ -35,7 +35,7 @@ impl Bundle {
         }
     }
 
-    /// Adds a file at the end, for which there is room. Where memory is refused, the bundle stays as it was.
+    /// Adds a file at the end, for which there is room. If an allocation fails, the bundle is as before.
     pub fn add(&mut self, bytes: &[u8]) -> Result<(), AllocError>
         requires count { length self.old < 1024 }
         requires one { length bytes.now ≤ 2 ^ 24 }

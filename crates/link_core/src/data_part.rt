@@ -10,7 +10,7 @@ pub(crate) enum DataPart {
     ReadOnly,
     /// Data that may be written, with bytes in the files.
     Writable,
-    /// Zeros behind these.
+    /// Zeros after these.
     Zero,
 }
 

@@ -4,7 +4,7 @@
 //! machines' runs of `specs/Runs.antt`. `specs/Faults.antt` has the faults in their order.
 #![tactic(auto)]
 
-ghost use Rattle.link_core.specs.Laws.{LinkedAgrees, LinkedIsOne, RepliesAgree};
+ghost use Rattle.link_core.specs.Laws.{LinkedAgrees, LinkedIsChecked, LinkedIsOne};
 
 mod bundle;
 mod data_part;
@@ -16,6 +16,7 @@ mod phases;
 mod program;
 
 pub use bundle::Bundle;
+use inner_machines::calls_answer_well;
 use jump_table::code_is_placed;
 use lift_blocks::{bounds_stay, lifted_is_one, source_lock};
 pub use link_fault::LinkFault;
@@ -34,16 +35,21 @@ pub fn linked_agrees()
     code_is_placed();
     effects_keep_targets();
     start_is_good();
+    calls_answer_well();
 }
-
-/// What agrees with every host agrees with a host that has replies alone.
-pub fn replies_agree()
-    ensures { RepliesAgree }
-{}
 
 /// A link's input has one linked program.
 pub fn linked_is_one()
     ensures { LinkedIsOne }
 {
     lifted_is_one();
+    code_is_placed();
+}
+
+/// A linked program with an entry has no fault that a check finds.
+pub fn linked_is_checked()
+    ensures { LinkedIsChecked }
+{
+    code_is_placed();
+    blocks_are_carried_out();
 }

@@ -16,7 +16,7 @@ pub enum LinkFault {
     /// The objects and wanted names have a fault, of which this is the first.
     #[error("the objects have a fault")]
     Bad(Fault),
-    /// Memory was refused.
+    /// An allocation failed.
     #[error("out of memory")]
     Memory,
 }

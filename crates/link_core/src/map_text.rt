@@ -206,7 +206,7 @@ fn push_section_line(
     Ok(())
 }
 
-/// Adds the line of a section with so many bytes at an address.
+/// Adds the line of a section of a size at an address.
 #[tactic(auto, unfolding(crate::specs::MapText::data_line))]
 fn push_data_line(
     address: u32,
@@ -251,7 +251,7 @@ fn push_eight_digits(number: u64, text: &mut Vec<u8>) -> Result<(), AllocError>
     push_digits(8, number, text)
 }
 
-/// Adds the lowest hexadecimal digits of a number, so many of them, the highest first.
+/// Adds the lowest `count` hexadecimal digits of `number`, the highest first.
 fn push_digits(count: u8, number: u64, text: &mut Vec<u8>) -> Result<(), AllocError>
     ensures { OnOk result (text.new.items ≡ text.old.items ++ hex_digits count number) }
 {

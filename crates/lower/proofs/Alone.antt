@@ -1,4 +1,4 @@
--- The instructions of an operation by itself: what they do, and that each can be placed.
+-- The instructions of a single operation: what they do, and that each can be placed.
 use Rattle.std.proofs.Common.{◌≡◌, ℕ, ◌≤◌, List, [], ◌∷◌, length, map, refl, sym, ap, ◌∙◌, subst, arith}
 use Rattle.std.specs.List.{AllByRecursion}
 use Rattle.std.proofs.lemmas.List.{length-map}

@@ -1,5 +1,5 @@
 -- The blocks are all operations, and each entry and each place of the address map begins one.
-use Rattle.std.proofs.Common.{◌≡◌, ℕ, zero, suc, ◌<◌, Bool, true, false, List, [], ◌∷◌, ◌++◌, length, map, get_or, Some, refl, sym, ap, ◌∙◌, eq-eqb, arith}
+use Rattle.std.proofs.Common.{◌≡◌, ℕ, zero, suc, ◌<◌, Bool, true, false, List, [], ◌∷◌, ◌++◌, length, map, get_or, Some, refl, sym, ap, ◌∙◌, arith}
 use Rattle.std.specs.Prelude.{slice_get, ◌||◌, option_map}
 use Rattle.std.specs.List.{filter_map}
 use Rattle.std.proofs.lemmas.List.Folds.{list_any-append}
@@ -15,7 +15,7 @@ use Rattle.relocs.specs.Places.{CodePlace, same_place, has}
 use Rattle.relocs.specs.Pairs.{all_places}
 use Rattle.relocs.specs.AddressMap.{needed_places}
 use Rattle.lift_blocks.specs.Operations.{Operation, operation_at}
-use Rattle.lift_blocks.specs.Listed.{Lifted, IsLifted, entry_places, target_at, aimed_places, ends_at, starts, place, or_nowhere}
+use Rattle.lift_blocks.specs.Listed.{Lifted, IsLifted, entry_places, target_at, aimed_places, ends_at, starts, place}
 use Rattle.lift_blocks.proofs.Order.{place_self}
 use Rattle.lower.proofs.Lists.{is_listed}
 use Rattle.lower.specs.Cutting.{block_pieces, groups, pieces, first_piece}
@@ -45,7 +45,7 @@ or_true : (b : Bool) → (b || true) ≡ true
 or_true true = refl
 or_true false = refl
 
--- what stands in a list is among it
+-- an element at an index of a list is in the list
 has_there : (ps : List CodePlace) (k : ℕ) (p : CodePlace) → slice_get ps k ≡ Some p → has ps p ≡ true
 has_there [] k p e = absurd cc
 has_there (q ∷ ps) zero p e =
@@ -53,7 +53,7 @@ has_there (q ∷ ps) zero p e =
     rw (same, place_self p) refl
 has_there (q ∷ ps) (suc k) p e = rw (has_there ps k p e) (or_true (same_place p q))
 
--- what is among one list is among it with another behind
+-- an element of a list is in its concatenation with another
 pub has_front : (ps qs : List CodePlace) (p : CodePlace) → has ps p ≡ true → has (ps ++ qs) p ≡ true
 has_front ps qs p h = rw (list_any-append (same_place p) ps qs, h) refl
 
@@ -102,7 +102,7 @@ needed_begin given lifted h i t e =
     let named = has_there (needed_places given) i p (place_there lifted.places (needed_places given) lifted.needed i t (h.needed_are ∙ h.map_is) e) in
     number_begins given lifted h t (h.needed_exist i t e) (has_back (entry_places given ++ targets given) (needed_places given) p named)
 
--- each operation stands in a block of the list
+-- each operation is in a block of the list
 pub blocks_stand : BlocksStand
 blocks_stand given lifted h t lt =
     let all = blocks lifted.begins lifted.ops in

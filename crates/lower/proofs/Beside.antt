@@ -18,14 +18,15 @@ use Rattle.lower.specs.Cutting.{Aimed, or_zero, aimed, aimed_op, instr_does}
 use Rattle.lower.proofs.Tails.{tail_has}
 use Rattle.lower.proofs.Same.{aimed_append, aimed_length}
 
+-- instructions of several parts, with one target
+pub aimed_lowered : {Part : Type 0} (lower : Part → List Instr) (target : Option ℕ) (parts : List Part) → aimed target (lowered lower parts) ≡ lowered (λ part. aimed target (lower part)) parts
+aimed_lowered lower target [] = refl
+aimed_lowered lower target (part ∷ parts) = aimed_append target (lower part) (lowered lower parts) ∙ ap (λ l. aimed target (lower part) ++ l) (aimed_lowered lower target parts)
+
 module _ (needed : List ℕ) where
-  -- an operation by itself, with the target of its block
+  -- a single operation, with the target of its block
   abbrev pub aimed_alone : Option ℕ → Operation ℕ → List Aimed
   aimed_alone target op = aimed target (lower_op needed op)
-
-  pub aimed_lowered : (target : Option ℕ) (ops : List (Operation ℕ)) → aimed target (lowered (lower_op needed) ops) ≡ lowered (aimed_alone target) ops
-  aimed_lowered target [] = refl
-  aimed_lowered target (op ∷ ops) = aimed_append target (lower_op needed op) (lowered (lower_op needed) ops) ∙ ap (λ l. aimed target (lower_op needed op) ++ l) (aimed_lowered target ops)
 
   -- two outcomes with what comes then, which is the same
   then_same : (o : Outcome ℕ State End) (f g : State → Outcome ℕ State End) → ((s : State) → f s ≡ g s) → and_then o f ≡ and_then o g

@@ -1,13 +1,17 @@
 -- A block whose last operation may branch or jump: its instructions do what its operations do, and it can be placed.
-use Rattle.std.proofs.Common.{◌≡◌, ℕ, ◌<◌, Bool, true, false, List, [], ◌∷◌, ◌++◌, length, Option, Some, None, refl, sym, ap, ◌∙◌, subst, arith, append_assoc, length-append}
+use Rattle.std.proofs.Common.{◌≡◌, ℕ, ◌^◌, ◌<◌, Bool, true, false, List, [], ◌∷◌, ◌++◌, length, Option, Some, None, refl, sym, ap, ◌∙◌, subst, arith, append_assoc, length-append}
 use Rattle.std.proofs.lemmas.List.{append-nil}
 use Rattle.std.specs.List.{AllByRecursion}
 use Rattle.std.specs.Option.{option_map}
 use Rattle.runs.specs.Blocks.{block_of}
+use Rattle.runs.specs.Joined.{joined}
+use Rattle.runs.specs.Machine.{does}
 use Rattle.runs.specs.Pieces.{Carries, lowered, AllLower}
 use Rattle.runs.specs.Groups.{pieces_of, parts}
 use Rattle.runs.proofs.Groups.{one_part, call_then}
 use Rattle.runs.proofs.Straight.{carries_block}
+use Rattle.rv_decode.specs.declared.ops.RvOp.{RvOp}
+use Rattle.rv_decode.specs.declared.ops.RvOp.TheVariants as rv
 use Rattle.machine_state.specs.State.{IsState}
 use Rattle.lift_blocks.specs.Operations.{Operation, Plain, Branch, Jal, Jalr, Pair, HostCall, Sbrk}
 use Rattle.lift_blocks.specs.Step.{op_does}
@@ -15,14 +19,18 @@ use Rattle.pvm_ops.specs.declared.instr.Instr.{Instr}
 use Rattle.jump_table.specs.Laws.{IsPlaceable, IsPlainInstr, HasNoOffset, is_some}
 use Rattle.lower.specs.Instructions.{ecalli, fallthrough}
 use Rattle.lift_blocks.specs.Listed.{ends_block}
-use Rattle.lower.specs.Lowering.{lower_op, tail_if, tail_of, aim_of, aim_of_last, is_call, part_instrs, block_instrs}
+use Rattle.lower.specs.Constants.{written, begins_run, IsRunOrOne, runs, value_of, constant}
+use Rattle.lower.specs.Lowering.{lower_op, tail_if, tail_of, aim_of, aim_of_last, is_call, run_instrs, part_instrs, block_instrs}
 use Rattle.lower.specs.Cutting.{aimed, block_pieces, instr_does}
 use Rattle.lift_blocks.specs.Fits.{FitsInstructions}
 use Rattle.lower.specs.Laws.{CallIsFirst, FrontGoesOn, IsPlacedBlock, BlocksAreCarried, BlocksArePlaceable}
-use Rattle.lower.proofs.Lists.{all_append}
-use Rattle.lower.proofs.Same.{aimed_append, aimed_length, block_instrs_are}
+use Rattle.lower.proofs.Lists.{all_append, all_front, all_back}
+use Rattle.lower.proofs.Same.{aimed_append, aimed_length}
 use Rattle.lower.proofs.Encodable.{small_is_short, alone_is_plain, ecalli_is_plain, sbrk_is_plain, fallthrough_is_plain}
 use Rattle.lower.proofs.Beside.{aimed_alone, aimed_lowered, lowers_beside, tail_goes_on, one_behind}
+use Rattle.lower.proofs.Cuts.{AllGoOn, begins_with, goes_with, Part, Run, Alone, which_part, runs_cut}
+use Rattle.lower.proofs.Joining.{run_small, value_fits, constant_is_plain, run_instr, alone_instrs, part_aimed, parts_lower}
+use Rattle.lower.proofs.Parted.{carries_joined}
 use Rattle.lower.proofs.Jumps.{all_are_lowered, call_does}
 use Rattle.lower.proofs.Endings.{endings_are_placeable}
 
@@ -48,6 +56,79 @@ no_offsets : (is : List Instr) → AllByRecursion IsPlainInstr is → AllByRecur
 no_offsets [] h = (tt, tt)
 no_offsets (i ∷ is) h = let r = no_offsets is h.1 in ((h.0.no_offset, r.0), (record { known = h.0.known; encodable = h.0.encodable }, r.1))
 
+-- operations have a part, and each part an operation
+some_parts : (ops : List (Operation ℕ)) → 0 < length ops → 0 < length (runs ops)
+some_parts ops some = by_parts (runs ops) (runs_cut ops).all
+  where
+    by_parts : (parts : List (List (Operation ℕ))) → joined parts ≡ ops → 0 < length parts
+    by_parts [] e = absurd (omega (arith, some, ap length e))
+    by_parts (part ∷ parts) e = omega arith
+
+parts_have : (parts : List (List (Operation ℕ))) → AllByRecursion IsRunOrOne parts → AllByRecursion (λ part. 0 < length part) parts
+parts_have [] h = tt
+parts_have ([] ∷ parts) h = absurd h.0
+parts_have ((op ∷ ops) ∷ parts) h = (omega arith, parts_have parts h.1)
+
+-- what comes after the last operation of a list, and its target, are those of its last part
+tail_behind : (part : List (Operation ℕ)) (next : Operation ℕ) (ops : List (Operation ℕ)) → tail_of (part ++ next ∷ ops) ≡ tail_of (next ∷ ops)
+tail_behind [] next ops = refl
+tail_behind (op ∷ []) next ops = refl
+tail_behind (op ∷ other ∷ part) next ops = tail_behind (other ∷ part) next ops
+
+aim_behind : (needed : List ℕ) (part : List (Operation ℕ)) (next : Operation ℕ) (ops : List (Operation ℕ)) → aim_of_last needed (part ++ next ∷ ops) ≡ aim_of_last needed (next ∷ ops)
+aim_behind needed [] next ops = refl
+aim_behind needed (op ∷ []) next ops = refl
+aim_behind needed (op ∷ other ∷ part) next ops = aim_behind needed (other ∷ part) next ops
+
+front_back : (part : List (Operation ℕ)) (next : Operation ℕ) (ops : List (Operation ℕ)) → FrontGoesOn (part ++ next ∷ ops) → FrontGoesOn (next ∷ ops)
+front_back [] next ops h = h
+front_back (op ∷ []) next ops h = h.1
+front_back (op ∷ other ∷ part) next ops h = front_back (other ∷ part) next ops h.1
+
+-- an operation that doesn't end its block, and has no target
+abbrev KeepsOn : List ℕ → Operation ℕ → Type 0
+KeepsOn needed op = (ends_block op ≡ false) × (aim_of needed op ≡ None)
+
+last_keeps_on : (needed : List ℕ) (op : Operation ℕ) (ops : List (Operation ℕ)) → AllByRecursion (λ x. KeepsOn needed x) (op ∷ ops) → (tail_of (op ∷ ops) ≡ fallthrough ∷ []) × (aim_of_last needed (op ∷ ops) ≡ None)
+last_keeps_on needed op [] h = (rw h.0.0 refl, h.0.1)
+last_keeps_on needed op (next ∷ ops) h = last_keeps_on needed next ops h.1
+
+-- so are those of a run
+written_keeps_on : (op : RvOp) (d : ℕ) → written op ≡ Some d → ends_block {Target = ℕ} (Plain op) ≡ false
+written_keeps_on (rv.Lui rd x) d e = refl
+written_keeps_on (rv.Auipc rd x) d e = refl
+written_keeps_on (rv.OpImm op rd rs1 imm) d e = refl
+written_keeps_on (rv.Op op rd rs1 rs2) d e = refl
+written_keeps_on (rv.Jal rd offset) d e = absurd cc
+written_keeps_on (rv.Jalr rd rs1 imm) d e = absurd cc
+written_keeps_on (rv.Branch cond rs1 rs2 offset) d e = absurd cc
+written_keeps_on (rv.Load width rd rs1 imm) d e = absurd cc
+written_keeps_on (rv.Store width rs1 rs2 imm) d e = absurd cc
+written_keeps_on rv.Fence d e = absurd cc
+written_keeps_on rv.Trap d e = absurd cc
+
+begin_keeps_on : (needed : List ℕ) (op : Operation ℕ) (d : ℕ) → begins_run op ≡ Some d → KeepsOn needed op
+begin_keeps_on needed (Plain op) d e = (written_keeps_on op d (begins_with op d e).1, refl)
+begin_keeps_on needed (Branch cond rs1 rs2 target) d e = absurd cc
+begin_keeps_on needed (Jal rd link target) d e = absurd cc
+begin_keeps_on needed (Jalr rd rs1 imm link) d e = absurd cc
+begin_keeps_on needed (Pair temp rd link target) d e = absurd cc
+begin_keeps_on needed (HostCall number) d e = absurd cc
+begin_keeps_on needed Sbrk d e = absurd cc
+
+rest_keeps_on : (needed : List ℕ) (d : ℕ) (ops : List (Operation ℕ)) → AllGoOn d ops → AllByRecursion (λ x. KeepsOn needed x) ops
+rest_keeps_on needed d [] h = tt
+rest_keeps_on needed d (Plain op ∷ ops) h = ((written_keeps_on op d (goes_with op d h.0).1, refl), rest_keeps_on needed d ops h.1)
+rest_keeps_on needed d (Branch cond rs1 rs2 target ∷ ops) h = let wrong : false ≡ true = h.0 in absurd cc
+rest_keeps_on needed d (Jal rd link target ∷ ops) h = let wrong : false ≡ true = h.0 in absurd cc
+rest_keeps_on needed d (Jalr rd rs1 imm link ∷ ops) h = let wrong : false ≡ true = h.0 in absurd cc
+rest_keeps_on needed d (Pair temp rd link target ∷ ops) h = let wrong : false ≡ true = h.0 in absurd cc
+rest_keeps_on needed d (HostCall number ∷ ops) h = let wrong : false ≡ true = h.0 in absurd cc
+rest_keeps_on needed d (Sbrk ∷ ops) h = let wrong : false ≡ true = h.0 in absurd cc
+
+run_keeps_on : (needed : List ℕ) (d : ℕ) (op : Operation ℕ) (run : List (Operation ℕ)) → begins_run op ≡ Some d → AllGoOn d run → AllByRecursion (λ x. KeepsOn needed x) (op ∷ run)
+run_keeps_on needed d op run b h = (begin_keeps_on needed op d b, rest_keeps_on needed d run h)
+
 module _ (needed : List ℕ) where
   -- each operation of a block is lowered, where the target is that of its last
   all_lower : (ops : List (Operation ℕ)) → AllByRecursion FitsInstructions ops → CallNone ops → FrontGoesOn ops → AllLower (op_does needed) (instr_does needed) IsState (aimed_alone needed (aim_of_last needed ops)) ops
@@ -55,7 +136,7 @@ module _ (needed : List ℕ) where
   all_lower (op ∷ []) h none front = (let l = all_are_lowered needed op h.0 none.0 in record { same = l.same; three = l.three; quiet = l.quiet; stays = l.stays }, tt)
   all_lower (op ∷ next ∷ ops) h none front = (lowers_beside needed (aim_of_last needed (next ∷ ops)) op (goes_on_plain needed op h.0 front.0).0 (all_are_lowered needed op h.0 none.0), all_lower (next ∷ ops) h.1 none.1 front.1)
 
-  -- the last operation and what is behind it
+  -- the last operation and what comes after it
   last_block : (op : Operation ℕ) (b : Bool) → FitsInstructions op → ends_block op ≡ b → IsPlacedBlock (lower_op needed op ++ tail_if b) (aim_of needed op)
   last_block op true h e =
       let ending = endings_are_placeable needed op h e in
@@ -74,44 +155,103 @@ module _ (needed : List ℕ) where
         terminator = refl;
       }
 
-  -- all operations and what is behind the last
-  with_tail_placed : (ops : List (Operation ℕ)) → AllByRecursion FitsInstructions ops → FrontGoesOn ops → 0 < length ops → IsPlacedBlock (lowered (lower_op needed) ops ++ tail_of ops) (aim_of_last needed ops)
-  with_tail_placed [] h front some = absurd (omega arith)
-  with_tail_placed (op ∷ []) h front some = subst (λ is. IsPlacedBlock (is ++ tail_of (op ∷ [])) (aim_of needed op)) (sym (append-nil (lower_op needed op))) (last_block op (ends_block op) h.0 refl)
-  with_tail_placed (op ∷ next ∷ ops) h front some =
-      let r = with_tail_placed (next ∷ ops) h.1 front.1 (omega arith) in
-      let both = no_offsets (lower_op needed op) (goes_on_plain needed op h.0 front.0).0 in
-      let same = append_assoc (lower_op needed op) (lowered (lower_op needed) (next ∷ ops)) (tail_of (next ∷ ops)) in
+  -- more instructions in front, none with an offset
+  in_front : (is js : List Instr) (target : Option ℕ) → AllByRecursion IsPlainInstr is → IsPlacedBlock js target → IsPlacedBlock (is ++ js) target
+  in_front is js target h r =
+      let both = no_offsets is h in
       record {
         block = record {
-          front = lower_op needed op ++ r.block.front;
+          front = is ++ r.block.front;
           last = r.block.last;
-          is = same ∙ ap (λ is. lower_op needed op ++ is) r.block.is ∙ sym (append_assoc (lower_op needed op) r.block.front (r.block.last ∷ []));
-          plain = all_append HasNoOffset (lower_op needed op) r.block.front both.0 r.block.plain;
+          is = ap (λ js. is ++ js) r.block.is ∙ sym (append_assoc is r.block.front (r.block.last ∷ []));
+          plain = all_append HasNoOffset is r.block.front both.0 r.block.plain;
           aimed = r.block.aimed;
         };
-        placeable = subst (λ is. AllByRecursion IsPlaceable is) (sym same) (all_append IsPlaceable (lower_op needed op) _ both.1 r.placeable);
+        placeable = all_append IsPlaceable is js both.1 r.placeable;
         terminator = r.terminator;
       }
 
+  -- what falls through
+  fallthrough_placed : IsPlacedBlock (fallthrough ∷ []) None
+  fallthrough_placed = record {
+    block = record { front = []; last = fallthrough; is = refl; plain = tt; aimed = fallthrough_is_plain.no_offset };
+    placeable = (record { known = fallthrough_is_plain.known; encodable = fallthrough_is_plain.encodable }, tt);
+    terminator = refl;
+  }
+
+  -- after a run that is the last of its block
+  last_run : (d v : ℕ) (op : Operation ℕ) (run : List (Operation ℕ)) → d < 13 → v < 2 ^ 64 → AllByRecursion (λ x. KeepsOn needed x) (op ∷ run) → IsPlacedBlock (constant d v ∷ tail_of (op ∷ run)) (aim_of_last needed (op ∷ run))
+  last_run d v op run small fits h =
+      let same = last_keeps_on needed op run h in
+      rw (same.0, same.1) (in_front (constant d v ∷ []) (fallthrough ∷ []) None (constant_is_plain d v small fits, tt) fallthrough_placed)
+
+  -- all parts and what comes after the last
+  parts_placed : (parts : List (List (Operation ℕ))) → AllByRecursion IsRunOrOne parts → AllByRecursion FitsInstructions (joined parts) → FrontGoesOn (joined parts) → 0 < length parts
+      → IsPlacedBlock (lowered (run_instrs needed) parts ++ tail_of (joined parts)) (aim_of_last needed (joined parts))
+  parts_placed [] each h front some = absurd (omega arith)
+  parts_placed (part ∷ []) each h front some = by_part part (which_part part each.0) h
+    where
+      by_part : (part : List (Operation ℕ)) → Part part → AllByRecursion FitsInstructions (part ++ []) → IsPlacedBlock ((run_instrs needed part ++ []) ++ tail_of (part ++ [])) (aim_of_last needed (part ++ []))
+      by_part _ (Alone op b) h =
+          let one : run_instrs needed (op ∷ []) ++ [] ≡ lower_op needed op = append-nil (run_instrs needed (op ∷ [])) ∙ alone_instrs needed op b in
+          subst (λ is. IsPlacedBlock (is ++ tail_of (op ∷ [])) (aim_of needed op)) (sym one) (last_block op (ends_block op) h.0 refl)
+      by_part _ (Run d op run b go) h =
+          let fits = subst (λ l. AllByRecursion FitsInstructions (op ∷ l)) (append-nil run) h in
+          let one : run_instrs needed (op ∷ run) ≡ constant d (value_of 0 (op ∷ run)) ∷ [] = run_instr needed d op run b in
+          subst (λ l. IsPlacedBlock ((run_instrs needed (op ∷ run) ++ []) ++ tail_of (op ∷ l)) (aim_of_last needed (op ∷ l))) (sym (append-nil run))
+          (rw one (last_run d (value_of 0 (op ∷ run)) op run (run_small op d fits.0 b) (value_fits 0 (op ∷ run) fits (omega arith)) (run_keeps_on needed d op run b go)))
+  parts_placed (part ∷ [] ∷ parts) each h front some = absurd each.1.0
+  parts_placed (part ∷ (next ∷ ops) ∷ parts) each h front some =
+      by_part part (which_part part each.0) h front
+      (parts_placed ((next ∷ ops) ∷ parts) each.1 (all_back FitsInstructions part (next ∷ ops ++ joined parts) h) (front_back part next (ops ++ joined parts) front) (omega arith))
+    where
+      behind : List Instr
+      behind = lowered (run_instrs needed) ((next ∷ ops) ∷ parts)
+
+      with_part : (part : List (Operation ℕ)) → AllByRecursion IsPlainInstr (run_instrs needed part)
+          → IsPlacedBlock (lowered (run_instrs needed) ((next ∷ ops) ∷ parts) ++ tail_of (next ∷ ops ++ joined parts)) (aim_of_last needed (next ∷ ops ++ joined parts))
+          → IsPlacedBlock ((run_instrs needed part ++ lowered (run_instrs needed) ((next ∷ ops) ∷ parts)) ++ tail_of (part ++ (next ∷ ops ++ joined parts))) (aim_of_last needed (part ++ (next ∷ ops ++ joined parts)))
+      with_part part plain r =
+          let own = run_instrs needed part in
+          let same : (own ++ behind) ++ tail_of (part ++ (next ∷ ops ++ joined parts)) ≡ own ++ (behind ++ tail_of (next ∷ ops ++ joined parts)) = append_assoc own behind (tail_of (part ++ (next ∷ ops ++ joined parts))) ∙ ap (λ tail. own ++ (behind ++ tail)) (tail_behind part next (ops ++ joined parts)) in
+          subst (λ is. IsPlacedBlock is (aim_of_last needed (part ++ (next ∷ ops ++ joined parts)))) (sym same)
+          (subst (λ target. IsPlacedBlock (own ++ (behind ++ tail_of (next ∷ ops ++ joined parts))) target) (sym (aim_behind needed part next (ops ++ joined parts)))
+          (in_front own (behind ++ tail_of (next ∷ ops ++ joined parts)) (aim_of_last needed (next ∷ ops ++ joined parts)) plain r))
+
+      by_part : (part : List (Operation ℕ)) → Part part → AllByRecursion FitsInstructions (part ++ (next ∷ ops ++ joined parts)) → FrontGoesOn (part ++ (next ∷ ops ++ joined parts))
+          → IsPlacedBlock (lowered (run_instrs needed) ((next ∷ ops) ∷ parts) ++ tail_of (next ∷ ops ++ joined parts)) (aim_of_last needed (next ∷ ops ++ joined parts))
+          → IsPlacedBlock ((run_instrs needed part ++ lowered (run_instrs needed) ((next ∷ ops) ∷ parts)) ++ tail_of (part ++ (next ∷ ops ++ joined parts))) (aim_of_last needed (part ++ (next ∷ ops ++ joined parts)))
+      by_part _ (Alone op b) h front r = with_part (op ∷ []) (rw (alone_instrs needed op b) (goes_on_plain needed op h.0 front.0).0) r
+      by_part _ (Run d op run b go) h front r =
+          let fits = all_front FitsInstructions (op ∷ run) (next ∷ ops ++ joined parts) h in
+          with_part (op ∷ run) (rw (run_instr needed d op run b) (constant_is_plain d (value_of 0 (op ∷ run)) (run_small op d fits.0 b) (value_fits 0 (op ∷ run) fits (omega arith)), tt)) r
+
   placed_block : (ops : List (Operation ℕ)) → AllByRecursion FitsInstructions ops → FrontGoesOn ops → 0 < length ops → IsPlacedBlock (block_instrs needed ops) (aim_of_last needed ops)
-  placed_block ops h front some = subst (λ is. IsPlacedBlock is (aim_of_last needed ops)) (sym (block_instrs_are needed ops)) (with_tail_placed ops h front some)
+  placed_block ops h front some =
+      let cut = runs_cut ops in
+      subst (λ l. IsPlacedBlock (lowered (run_instrs needed) (runs ops) ++ tail_of l) (aim_of_last needed l)) cut.all
+      (parts_placed (runs ops) cut.each (subst (λ l. AllByRecursion FitsInstructions l) (sym cut.all) h) (subst FrontGoesOn (sym cut.all) front) (some_parts ops some))
 
   -- a block has an instruction, since its last ends it
-  some_instrs : (target : Option ℕ) (ops : List (Operation ℕ)) → AllByRecursion FitsInstructions ops → FrontGoesOn ops → 0 < length ops → 0 < length (lowered (aimed_alone needed target) ops ++ aimed target (tail_of ops))
+  some_instrs : (target : Option ℕ) (ops : List (Operation ℕ)) → AllByRecursion FitsInstructions ops → FrontGoesOn ops → 0 < length ops → 0 < length (lowered (part_aimed needed target) (runs ops) ++ aimed target (tail_of ops))
   some_instrs target ops h front some =
-      let ended = (with_tail_placed ops h front some).block in
-      let all = ap (λ l. l ++ aimed target (tail_of ops)) (sym (aimed_lowered needed target ops)) ∙ sym (aimed_append target (lowered (lower_op needed) ops) (tail_of ops)) in
-      let count = ap length all ∙ aimed_length target (lowered (lower_op needed) ops ++ tail_of ops) ∙ ap length ended.is in
+      let ended = (placed_block ops h front some).block in
+      let all = ap (λ l. l ++ aimed target (tail_of ops)) (sym (aimed_lowered (run_instrs needed) target (runs ops))) ∙ sym (aimed_append target (part_instrs needed ops) (tail_of ops)) in
+      let count = ap length all ∙ aimed_length target (block_instrs needed ops) ∙ ap length ended.is in
       omega (arith, length-append ended.front (ended.last ∷ []))
 
-  -- without a call it is carried out as one piece
+  -- without a call it is implemented as one segment
   block_is_carried : (ops : List (Operation ℕ)) → AllByRecursion FitsInstructions ops → CallNone ops → FrontGoesOn ops → 0 < length ops
       → Carries (op_does needed) (instr_does needed) IsState (record { ops = ops; instrs = aimed (aim_of_last needed ops) (part_instrs needed ops) ++ aimed (aim_of_last needed ops) (tail_of ops) })
   block_is_carried ops h none front some =
       let target = aim_of_last needed ops in
-      subst (λ is. Carries (op_does needed) (instr_does needed) IsState (record { ops = ops; instrs = is ++ aimed (aim_of_last needed ops) (tail_of ops) })) (sym (aimed_lowered needed (aim_of_last needed ops) ops))
-      (carries_block (op_does needed) (instr_does needed) IsState (aimed_alone needed target) ops (aimed target (tail_of ops)) (all_lower ops h none front) some (some_instrs target ops h front some) (one_behind needed target ops) (tail_goes_on needed target ops))
+      let cut = runs_cut ops in
+      let lowers = subst (λ l. AllLower (op_does needed) (instr_does needed) IsState (aimed_alone needed target) l) (sym cut.all) (all_lower ops h none front) in
+      let fits = subst (λ l. AllByRecursion FitsInstructions l) (sym cut.all) h in
+      let carried = carries_block (does (op_does needed)) (instr_does needed) IsState (part_aimed needed target) (runs ops) (aimed target (tail_of ops)) (parts_lower needed target (runs ops) cut.each fits lowers) (some_parts ops some) (some_instrs target ops h front some) (one_behind needed target ops) (tail_goes_on needed target ops) in
+      let whole = carries_joined (op_does needed) (instr_does needed) IsState (aimed_alone needed target) (runs ops) (lowered (part_aimed needed target) (runs ops) ++ aimed target (tail_of ops)) (parts_have (runs ops) cut.each) lowers carried in
+      subst (λ is. Carries (op_does needed) (instr_does needed) IsState (record { ops = ops; instrs = is ++ aimed target (tail_of ops) })) (sym (aimed_lowered (run_instrs needed) target (runs ops)))
+      (subst (λ l. Carries (op_does needed) (instr_does needed) IsState (record { ops = l; instrs = lowered (part_aimed needed target) (runs ops) ++ aimed target (tail_of ops) })) cut.all whole)
 
   -- the pieces of a block: one without a call, and two where it begins with one
   pub pieces_are : (ops : List (Operation ℕ)) → CallNone ops → 0 < length ops → block_pieces needed ops ≡ record { ops = ops; instrs = aimed (aim_of_last needed ops) (part_instrs needed ops) ++ aimed (aim_of_last needed ops) (tail_of ops) } ∷ []

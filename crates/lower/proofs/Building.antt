@@ -14,9 +14,9 @@ use Rattle.pvm_ops.specs.declared.instr.Instr.{Instr}
 use Rattle.pvm_ops.specs.BlockList.{Block, BlockList, change_last, empty_block}
 use Rattle.lower.specs.declared.forms.Three.{Three}
 use Rattle.lower.specs.Plain.{listed}
-use Rattle.lower.specs.Lowering.{lower_op, tail_if, tail_of, aim_of, aim_of_last, block_instrs, lower_block}
+use Rattle.lower.specs.Constants.{runs}
+use Rattle.lower.specs.Lowering.{tail_if, tail_of, aim_of, aim_of_last, run_instrs, part_instrs, block_instrs, lower_block}
 use Rattle.lower.specs.Building.{one_if, with_instrs, extended, with_target_if, aimed_at, with_block}
-use Rattle.lower.proofs.Same.{lowered_append, block_instrs_are}
 
 -- as many blocks
 pub length-change_last : (change : Block → Block) (bs : List Block) → length (change_last change bs) ≡ length bs
@@ -87,7 +87,7 @@ three_are_added t list first second third e f g =
     g ∙ ap (extended c) (f ∙ ap (extended b) e ∙ extended-twice a b list) ∙ extended-twice (a ++ b) c list ∙ ap (λ is. extended is list) (sym (listed_parts t))
 
 -- no part of a list
-slice_range-none : {A : Type 0} (xs : List A) (from : ℕ) → slice_range xs from from ≡ []
+pub slice_range-none : {A : Type 0} (xs : List A) (from : ℕ) → slice_range xs from from ≡ []
 slice_range-none xs from = let none : from - from ≡ 0 = omega arith in ap (λ n. take n (drop from xs)) none
 
 -- a part of a list with the next element
@@ -100,22 +100,18 @@ slice_range-more xs from at x le lt e =
     let is : get_or (drop from xs) n x ≡ x = get_or-drop from xs n x ∙ ap (λ i. get_or xs i x) there ∙ get_or_from_slice_get xs at x x e in
     ap (λ m. take m (drop from xs)) size ∙ take-suc (drop from xs) n x within ∙ ap (λ y. take n (drop from xs) ++ y ∷ []) is
 
--- the instructions of operations with one more
-pub lowered-more : (needed : List ℕ) (ops : List (Operation ℕ)) (op : Operation ℕ) → lowered (lower_op needed) (ops ++ op ∷ []) ≡ lowered (lower_op needed) ops ++ lower_op needed op
-lowered-more needed ops op = lowered_append (lower_op needed) ops (op ∷ []) ∙ ap (λ is. lowered (lower_op needed) ops ++ is) (append-nil (lower_op needed op))
+-- no operation is left
+pub none_is_left : (needed : List ℕ) (ops : List (Operation ℕ)) (at : ℕ) (list : BlockList) → extended (part_instrs needed (slice_range ops at at)) list ≡ list
+none_is_left needed ops at list = ap (λ part. extended (part_instrs needed part) list) (slice_range-none ops at) ∙ extended-none list
 
-pub none_are_added : (needed : List ℕ) (ops : List (Operation ℕ)) (from : ℕ) (list : BlockList) → list ≡ extended (lowered (lower_op needed) (slice_range ops from from)) list
-none_are_added needed ops from list = sym (ap (λ part. extended (lowered (lower_op needed) part) list) (slice_range-none ops from) ∙ extended-none list)
-
-pub one_more_is_added : (needed : List ℕ) (ops : List (Operation ℕ)) (from at : ℕ) (op : Operation ℕ) (list now new : BlockList)
-    → from ≤ at → at < length ops → slice_get ops at ≡ Some op
-    → now ≡ extended (lowered (lower_op needed) (slice_range ops from at)) list → new ≡ extended (lower_op needed op) now
-    → new ≡ extended (lowered (lower_op needed) (slice_range ops from (at + 1))) list
-one_more_is_added needed ops from at op list now new le lt there e f =
-    let part : List (Operation ℕ) = slice_range ops from at in
-    f ∙ ap (extended (lower_op needed op)) e ∙ extended-twice (lowered (lower_op needed) part) (lower_op needed op) list
-    ∙ ap (λ is. extended is list) (sym (lowered-more needed part op))
-    ∙ ap (λ ops. extended (lowered (lower_op needed) ops) list) (sym (slice_range-more ops from at op le lt there))
+-- one part less is left
+pub one_part_less : (needed : List ℕ) (ops : List (Operation ℕ)) (from next to : ℕ) (now new : BlockList)
+    → runs (slice_range ops from to) ≡ slice_range ops from next ∷ runs (slice_range ops next to) → new ≡ extended (run_instrs needed (slice_range ops from next)) now
+    → extended (part_instrs needed (slice_range ops next to)) new ≡ extended (part_instrs needed (slice_range ops from to)) now
+one_part_less needed ops from next to now new cut e =
+    ap (extended (part_instrs needed (slice_range ops next to))) e
+    ∙ extended-twice (run_instrs needed (slice_range ops from next)) (part_instrs needed (slice_range ops next to)) now
+    ∙ ap (λ parts. extended (lowered (run_instrs needed) parts) now) (sym cut)
 
 -- the end and the target of a block are those of its last operation
 tail_of-last : (ops : List (Operation ℕ)) (op : Operation ℕ) → tail_of (ops ++ op ∷ []) ≡ tail_if (ends_block op)
@@ -135,12 +131,12 @@ with_target-none is (Some target) = refl
 
 -- the block of operations whose last is known
 block-last : (needed : List ℕ) (begins : List Bool) (front : List (Operation ℕ)) (op : Operation ℕ)
-    → with_target_if (option_map (block_of begins) (aim_of needed op)) (record { instrs = lowered (lower_op needed) (front ++ op ∷ []) ++ tail_if (ends_block op); target = None })
+    → with_target_if (option_map (block_of begins) (aim_of needed op)) (record { instrs = part_instrs needed (front ++ op ∷ []) ++ tail_if (ends_block op); target = None })
     ≡ lower_block needed begins (front ++ op ∷ [])
 block-last needed begins front op =
     let ops : List (Operation ℕ) = front ++ op ∷ [] in
-    let low : List Instr = lowered (lower_op needed) ops in
-    let instrs : low ++ tail_if (ends_block op) ≡ block_instrs needed ops = ap (λ is. low ++ is) (sym (tail_of-last front op)) ∙ sym (block_instrs_are needed ops) in
+    let low : List Instr = part_instrs needed ops in
+    let instrs : low ++ tail_if (ends_block op) ≡ block_instrs needed ops = ap (λ is. low ++ is) (sym (tail_of-last front op)) in
     let target : option_map (block_of begins) (aim_of needed op) ≡ option_map (block_of begins) (aim_of_last needed ops) = ap (option_map (block_of begins)) (sym (aim_of-last needed front op)) in
     with_target-none (low ++ tail_if (ends_block op)) (option_map (block_of begins) (aim_of needed op))
     ∙ ap (λ is. record { instrs = is; target = option_map (block_of begins) (aim_of needed op) }) instrs
@@ -148,10 +144,10 @@ block-last needed begins front op =
 
 -- an empty block, with the instructions of operations, and ended with the last
 pub block_is_built : (needed : List ℕ) (begins : List Bool) (front : List (Operation ℕ)) (op : Operation ℕ) (list : BlockList)
-    → aimed_at (option_map (block_of begins) (aim_of needed op)) (extended (tail_if (ends_block op)) (extended (lowered (lower_op needed) (front ++ op ∷ [])) (with_block empty_block list)))
+    → aimed_at (option_map (block_of begins) (aim_of needed op)) (extended (tail_if (ends_block op)) (extended (part_instrs needed (front ++ op ∷ [])) (with_block empty_block list)))
     ≡ with_block (lower_block needed begins (front ++ op ∷ [])) list
 block_is_built needed begins front op list =
-    let low : List Instr = lowered (lower_op needed) (front ++ op ∷ []) in
+    let low : List Instr = part_instrs needed (front ++ op ∷ []) in
     let tail : List Instr = tail_if (ends_block op) in
     let target : Option ℕ = option_map (block_of begins) (aim_of needed op) in
     ap (λ bs. record list { blocks = bs }) (
@@ -167,15 +163,15 @@ some_block block list new e = rw e (omega (arith, length-append list.blocks (blo
 -- the block of operations
 pub block_is_added : (needed : List ℕ) (begins : List Bool) (ops : List (Operation ℕ)) (from to : ℕ) (op : Operation ℕ) (list empty filled ended : BlockList)
     → from < to → to ≤ length ops → slice_get ops (to - 1) ≡ Some op
-    → empty ≡ with_block empty_block list → filled ≡ extended (lowered (lower_op needed) (slice_range ops from to)) empty
+    → empty ≡ with_block empty_block list → filled ≡ extended (part_instrs needed (slice_range ops from to)) empty
     → ended ≡ aimed_at (option_map (block_of begins) (aim_of needed op)) (extended (tail_if (ends_block op)) filled)
     → ended ≡ with_block (lower_block needed begins (slice_range ops from to)) list
 block_is_added needed begins ops from to op list empty filled ended lt within there e f g =
     let front : List (Operation ℕ) = slice_range ops from (to - 1) in
     let next : to - 1 + 1 ≡ to = omega arith in
     let part : slice_range ops from to ≡ front ++ op ∷ [] = ap (slice_range ops from) (sym next) ∙ slice_range-more ops from (to - 1) op (omega arith) (omega arith) there in
-    g ∙ ap (λ l. aimed_at (option_map (block_of begins) (aim_of needed op)) (extended (tail_if (ends_block op)) l)) (f ∙ ap (extended (lowered (lower_op needed) (slice_range ops from to))) e)
-    ∙ ap (λ ops. aimed_at (option_map (block_of begins) (aim_of needed op)) (extended (tail_if (ends_block op)) (extended (lowered (lower_op needed) ops) (with_block empty_block list)))) part
+    g ∙ ap (λ l. aimed_at (option_map (block_of begins) (aim_of needed op)) (extended (tail_if (ends_block op)) l)) (f ∙ ap (extended (part_instrs needed (slice_range ops from to))) e)
+    ∙ ap (λ ops. aimed_at (option_map (block_of begins) (aim_of needed op)) (extended (tail_if (ends_block op)) (extended (part_instrs needed ops) (with_block empty_block list)))) part
     ∙ block_is_built needed begins front op list
     ∙ ap (λ ops. with_block (lower_block needed begins ops) list) (sym part)
 

@@ -1,5 +1,5 @@
--- In the blocks of a lifted list only the first operation may call the host, where another is behind it.
-use Rattle.std.proofs.Common.{◌≡◌, ℕ, zero, suc, ◌+◌, ◌<◌, Bool, true, false, List, [], ◌∷◌, length, get_or, Some, refl, sym, ap, ◌∙◌, arith, add-one}
+-- In the blocks of a lifted list only the first operation may call the host, and another comes after it.
+use Rattle.std.proofs.Common.{◌≡◌, ℕ, zero, suc, ◌+◌, Bool, true, false, List, [], ◌∷◌, length, get_or, Some, refl, sym, ap, ◌∙◌, arith}
 use Rattle.std.specs.Prelude.{slice_get}
 use Rattle.std.specs.List.{AllByRecursion}
 use Rattle.runs.specs.Blocks.{begins_first, in_first, with_first, blocks}
@@ -12,7 +12,7 @@ use Rattle.lower.specs.Laws.{CallIsFirst}
 use Rattle.lower.proofs.Begin.{marks_count}
 use Rattle.lower.proofs.FirstBlock.{begins_is}
 
--- each call is marked as the beginning of a block, and what is behind it is not
+-- each call is marked as the beginning of a block, and the operation after it is not
 abbrev AreMarked : List Bool → List (Operation ℕ) → Type 0
 AreMarked bs ops = (q : ℕ) (op : Operation ℕ) → slice_get ops q ≡ Some op → is_call op ≡ true → (get_or bs q false ≡ true) × (get_or bs (suc q) true ≡ false)
 
@@ -43,7 +43,7 @@ no_call op wrong = by_test (is_call op) refl
     by_test true e = absurd (wrong e)
     by_test false e = refl
 
--- with the next operation, by whether a block begins behind it
+-- with the next operation, by whether a block begins after it
 with_next : (b : Bool) (bs : List Bool) (op : Operation ℕ) (ops : List (Operation ℕ)) → begins_first bs ≡ b → length bs ≡ length ops → AreMarked (true ∷ bs) (op ∷ ops) → AllByRecursion CallIsFirst (blocks bs ops) → AllByRecursion CallIsFirst (with_first b op (blocks bs ops))
 with_next true bs op ops starts n marks h = (alone op (no_call op (λ call. (let wrong : true ≡ false = sym starts ∙ begins_is bs ∙ (marks 0 op refl call).1 in absurd cc))), h)
 with_next false [] op ops starts n marks h = absurd cc

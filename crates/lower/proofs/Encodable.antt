@@ -28,7 +28,7 @@ use Rattle.pvm_ops.specs.Fetch.{trap}
 use Rattle.pvm_ops.specs.Spelling.{IsShort}
 use Rattle.jump_table.specs.Laws.{IsPlainInstr}
 use Rattle.lift_blocks.specs.Fits.{IsOperand}
-use Rattle.lower.specs.Instructions.{rx, rr, rrx, rrr, xy, rxy, ecalli, sbrk, fallthrough, jump_ind, load_imm, move_reg, add_imm_32, set_lt_u_imm, neg_add_imm_64}
+use Rattle.lower.specs.Instructions.{rx, rr, rrx, rrr, xy, rxy, ecalli, sbrk, fallthrough, jump_ind, load_imm, load_imm_64, move_reg, add_imm_32, set_lt_u_imm, neg_add_imm_64}
 use Rattle.lower.specs.Plain.{alu_imm_opcode, alu_opcode, load_opcode, load_ind_opcode, store_opcode, store_ind_opcode, store_imm_opcode, store_imm_ind_opcode, with_second_zero, with_first_zero, lower_plain, IsLowerable}
 use Rattle.lower.proofs.Immediates.{wider, word_fits, operand_is_signed}
 use Rattle.lower.proofs.Rows.{sum_zero_l, zero_shlo_l, zero_shlo_r, zero_shar_r, zero_shlo_l_32, zero_shlo_r_32, zero_shar_r_32}
@@ -173,6 +173,13 @@ jump_ind_is_plain a imm small h = rx_is_plain 50 a (word_of imm) opcode.jump_ind
 
 pub load_imm_is_plain : (a x : ℕ) → a < 13 → IsShort x → IsPlainInstr (load_imm a x)
 load_imm_is_plain a x small h = rx_is_plain 51 a x opcode.load_imm_known opcode.load_imm_form small h
+
+pub load_imm_64_is_plain : (a x : ℕ) → a < 13 → x < 2 ^ 64 → IsPlainInstr (load_imm_64 a x)
+load_imm_64_is_plain a x small fits = record {
+  known = opcode.load_imm_64_known;
+  encodable = record { a = omega arith; b = omega arith; d = omega arith; offset = omega arith; unused = rw opcode.load_imm_64_form refl; fit = rw opcode.load_imm_64_form fits };
+  no_offset = rw opcode.load_imm_64_form refl;
+}
 
 pub sbrk_is_plain : (d a : ℕ) → d < 13 → a < 13 → IsPlainInstr (sbrk d a)
 sbrk_is_plain d a p q = rr_is_plain 101 d a opcode.sbrk_known opcode.sbrk_form p q

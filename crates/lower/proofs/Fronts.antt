@@ -1,4 +1,4 @@
--- None but the last operation of a block of a lifted list ends it, since a block begins behind each that does.
+-- Only the last operation of a block of a lifted list ends it, since a block begins after each that does.
 use Rattle.std.proofs.Common.{◌≡◌, ℕ, suc, Bool, true, false, List, [], ◌∷◌, length, Some, refl, sym, ap, ◌∙◌, subst, arith}
 use Rattle.std.specs.Prelude.{slice_get, ◌||◌}
 use Rattle.std.specs.List.{AllByRecursion}
@@ -18,7 +18,7 @@ first_false : (a b : Bool) → (a || b) ≡ false → a ≡ false
 first_false true b e = e
 first_false false b e = refl
 
--- where no block begins behind it, the one before did not end
+-- if no block begins after it, the one before did not end
 not_ended : (given : Given) (ended : Bool) (ps : List CodePlace) → begins_first (starts given ended ps) ≡ false → ended ≡ false
 not_ended given ended [] e = absurd cc
 not_ended given ended (p ∷ ps) e = first_false ended (has (aimed_places given) p) e

@@ -10,6 +10,9 @@ pub mod Same
 pub mod Tails
 pub mod Begin
 pub mod Beside
+pub mod Cuts
+pub mod Joining
+pub mod Parted
 pub mod Jumps
 pub mod Endings
 pub mod Blocks
@@ -22,3 +25,4 @@ pub mod Aims
 pub mod FirstBlock
 pub mod Numbering
 pub mod Building
+pub mod Ranges

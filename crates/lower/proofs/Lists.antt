@@ -18,10 +18,18 @@ all_at P [] k x h e = absurd cc
 all_at P (y ∷ xs) zero x h e = let same : y ≡ x = cc in subst P same h.0
 all_at P (y ∷ xs) (suc k) x h e = all_at P xs k x h.1 e
 
--- of two lists, one behind the other
+-- for the concatenation of two lists
 pub all_append : {A : Type 0} (P : A → Type 0) (xs ys : List A) → AllByRecursion P xs → AllByRecursion P ys → AllByRecursion P (xs ++ ys)
 all_append P [] ys h g = g
 all_append P (x ∷ xs) ys h g = (h.0, all_append P xs ys h.1 g)
+
+pub all_front : {A : Type 0} (P : A → Type 0) (xs ys : List A) → AllByRecursion P (xs ++ ys) → AllByRecursion P xs
+all_front P [] ys h = tt
+all_front P (x ∷ xs) ys h = (h.0, all_front P xs ys h.1)
+
+pub all_back : {A : Type 0} (P : A → Type 0) (xs ys : List A) → AllByRecursion P (xs ++ ys) → AllByRecursion P ys
+all_back P [] ys h = h
+all_back P (x ∷ xs) ys h = all_back P xs ys h.1
 
 -- what a mapped element comes from
 pub record From {A B : Type 0} (f : A → B) (xs : List A) (k : ℕ) (y : B) : Type 0 where
@@ -51,7 +59,7 @@ blocks_all P bs [] h = tt
 blocks_all P [] (x ∷ xs) h = tt
 blocks_all P (b ∷ bs) (x ∷ xs) h = with_first_all P (begins_first bs) x (blocks bs xs) h.0 (blocks_all P bs xs h.1)
 
--- what holds of each element of the lists that elements stand for holds of each of all, one behind the other
+-- what holds of each element of the lists of elements holds of each of their concatenation
 pub all_joined : {A B : Type 0} (P : B → Type 0) (f : A → List B) (Q : A → Type 0) (xs : List A) → ((x : A) → Q x → AllByRecursion P (f x)) → AllByRecursion Q xs → AllByRecursion P (joined (map f xs))
 all_joined P f Q [] h q = tt
 all_joined P f Q (x ∷ xs) h q = all_append P (f x) (joined (map f xs)) (h x q.0) (all_joined P f Q xs h q.1)

@@ -6,16 +6,18 @@ use Rattle.runs.specs.Joined.{joined, position}
 use Rattle.runs.specs.Blocks.{blocks, block_of}
 use Rattle.runs.specs.Pieces.{lowered, all_instrs}
 use Rattle.runs.specs.Groups.{parts}
-use Rattle.runs.proofs.Groups.{joined_parts, pieces_instrs, group_instrs, group_instr_place}
+use Rattle.runs.proofs.Groups.{pieces_instrs, group_instrs, group_instr_place}
 use Rattle.lift_blocks.specs.Operations.{Operation}
 use Rattle.pvm_ops.specs.declared.instr.Instr.{Instr}
 use Rattle.jump_table.specs.Assembly.{Member, members, groups as member_groups}
-use Rattle.lower.specs.Lowering.{lower_op, tail_of, aim_of_last, is_call, part_instrs, block_instrs, lower_block}
+use Rattle.lower.specs.Constants.{runs}
+use Rattle.lower.specs.Lowering.{tail_of, aim_of_last, is_call, run_instrs, part_instrs, block_instrs, lower_block}
 use Rattle.lower.specs.Cutting.{Aimed, aimed, block_pieces, groups}
 use Rattle.lower.specs.Laws.{InBlock, SameInstrs, SamePlaces}
+use Rattle.lower.proofs.Cuts.{runs_by_parts}
 
--- the instructions of operations, one behind the other
-pub lowered_append : {Instr : Type 0} (lower : Operation ℕ → List Instr) (a b : List (Operation ℕ)) → lowered lower (a ++ b) ≡ lowered lower a ++ lowered lower b
+-- the instructions of parts, one after another
+pub lowered_append : {Part Instr : Type 0} (lower : Part → List Instr) (a b : List Part) → lowered lower (a ++ b) ≡ lowered lower a ++ lowered lower b
 lowered_append lower [] b = refl
 lowered_append lower (op ∷ a) b = ap (λ l. lower op ++ l) (lowered_append lower a b) ∙ sym (append_assoc (lower op) (lowered lower a) (lowered lower b))
 
@@ -28,14 +30,13 @@ pub aimed_length : (target : Option ℕ) (is : List Instr) → length (aimed tar
 aimed_length target is = length-map is (λ i. record { instr = i; target = target })
 
 module _ (needed : List ℕ) where
-  -- those of the parts are those of all
-  parts_instrs : (ws : List (List (Operation ℕ))) → joined (map (part_instrs needed) ws) ≡ lowered (lower_op needed) (joined ws)
+  -- those of the parts between calls are those of all
+  parts_instrs : (ws : List (List (Operation ℕ))) → joined (map (part_instrs needed) ws) ≡ lowered (run_instrs needed) (joined (map runs ws))
   parts_instrs [] = refl
-  parts_instrs (w ∷ ws) = ap (λ l. lowered (lower_op needed) w ++ l) (parts_instrs ws) ∙ sym (lowered_append (lower_op needed) w (joined ws))
+  parts_instrs (w ∷ ws) = ap (λ l. part_instrs needed w ++ l) (parts_instrs ws) ∙ sym (lowered_append (run_instrs needed) (runs w) (joined (map runs ws)))
 
-  -- so far a block's instructions are those of its operations, and its tail
-  pub block_instrs_are : (ops : List (Operation ℕ)) → block_instrs needed ops ≡ lowered (lower_op needed) ops ++ tail_of ops
-  block_instrs_are ops = ap (λ l. l ++ tail_of ops) (parts_instrs (parts is_call ops) ∙ ap (lowered (lower_op needed)) (joined_parts is_call ops))
+  parts_are : (ops : List (Operation ℕ)) → joined (map (part_instrs needed) (parts is_call ops)) ≡ part_instrs needed ops
+  parts_are ops = parts_instrs (parts is_call ops) ∙ ap (lowered (run_instrs needed)) (sym (runs_by_parts ops))
 
   -- many lists
   aimed_joined : (target : Option ℕ) (ws : List (List (Operation ℕ))) → joined (map (λ part. aimed target (part_instrs needed part)) ws) ≡ aimed target (joined (map (part_instrs needed) ws))
@@ -46,8 +47,8 @@ module _ (needed : List ℕ) where
   same_block : (ops : List (Operation ℕ)) → all_instrs (block_pieces needed ops) ≡ aimed (aim_of_last needed ops) (block_instrs needed ops)
   same_block ops =
       pieces_instrs _ _ (parts is_call ops)
-      ∙ ap (λ l. l ++ aimed (aim_of_last needed ops) (tail_of ops)) (aimed_joined (aim_of_last needed ops) (parts is_call ops))
-      ∙ sym (aimed_append (aim_of_last needed ops) (joined (map (part_instrs needed) (parts is_call ops))) (tail_of ops))
+      ∙ ap (λ l. l ++ aimed (aim_of_last needed ops) (tail_of ops)) (aimed_joined (aim_of_last needed ops) (parts is_call ops) ∙ ap (aimed (aim_of_last needed ops)) (parts_are ops))
+      ∙ sym (aimed_append (aim_of_last needed ops) (part_instrs needed ops) (tail_of ops))
 
   same_length : (ops : List (Operation ℕ)) → length (all_instrs (block_pieces needed ops)) ≡ length (block_instrs needed ops)
   same_length ops = ap length (same_block ops) ∙ aimed_length (aim_of_last needed ops) (block_instrs needed ops)

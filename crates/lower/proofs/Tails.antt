@@ -1,4 +1,4 @@
--- What stands behind a block's last operation.
+-- The instructions after those of a block's last operation.
 use Rattle.std.proofs.Common.{Bool, true, false, List, [], ◌∷◌, ℕ}
 use Rattle.lift_blocks.specs.Operations.{Operation}
 use Rattle.pvm_ops.specs.declared.instr.Instr.{Instr}

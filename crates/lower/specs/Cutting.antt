@@ -30,7 +30,7 @@ aimed target is = map (λ i. record { instr = i; target = target }) is
 abbrev pub aimed_op : List ℕ → Operation ℕ → List Aimed
 aimed_op needed op = aimed (aim_of needed op) (lower_op needed op)
 
--- a block with its instructions: one piece, and one more behind each call
+-- a block with its instructions: one segment, and one more after each call
 abbrev pub block_pieces : List ℕ → List (Operation ℕ) → List (Piece (Operation ℕ) Aimed)
 block_pieces needed ops = pieces_of (λ part. aimed (aim_of_last needed ops) (part_instrs needed part)) (aimed (aim_of_last needed ops) (tail_of ops)) (parts is_call ops)
 

@@ -1,5 +1,5 @@
 -- The instructions that operations are lowered to beside the trap (JAM Gray Paper 0.7.0, appendix A, "Instruction
--- Tables"): by their forms, with an opcode, and by their names. 0 stands in the fields that a form does not use.
+-- Tables"): by their forms, with an opcode, and by their names. Fields that a form does not use are 0.
 use Rattle.std.specs.Prelude.{ℕ}
 use Rattle.pvm_ops.specs.declared.instr.Instr.{Instr}
 
@@ -56,6 +56,10 @@ jump_ind a x = rx 50 a x
 
 abbrev pub load_imm : ℕ → ℕ → Instr
 load_imm a x = rx 51 a x
+
+-- with an immediate of 64 bits
+abbrev pub load_imm_64 : ℕ → ℕ → Instr
+load_imm_64 a x = rx 20 a x
 
 abbrev pub move_reg : ℕ → ℕ → Instr
 move_reg d a = rr 100 d a

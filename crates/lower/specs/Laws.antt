@@ -22,6 +22,7 @@ use Rattle.pvm_ops.specs.declared.instr.Instr.{Instr}
 use Rattle.pvm_ops.specs.BlockList.{Block}
 use Rattle.pvm_machine.specs.Effect.{effect}
 use Rattle.lower.specs.Plain.{IsLowerable}
+use Rattle.lower.specs.Constants.{IsCutAtRuns, runs}
 use Rattle.lower.specs.Lowering.{lower_op, aim_of, aim_of_last, is_call, block_instrs, lowered_blocks}
 use Rattle.lower.specs.Cutting.{aimed_op, block_pieces, pieces, first_piece, instr_does, instr_places}
 
@@ -56,6 +57,10 @@ AllAreLowered = (needed : List ℕ) (op : Operation ℕ) → FitsInstructions op
 abbrev pub CallsAreLowered : Type 0
 CallsAreLowered = (needed : List ℕ) (number : ℕ) (s : State) → does (instr_does needed) (aimed_op needed (HostCall number)) s ≡ Call number s
 
+-- Operations have one cut into maximal runs, by which the instructions of a block are made.
+abbrev pub RunsAreMaximal : Type 0
+RunsAreMaximal = (ops : List (Operation ℕ)) → IsCutAtRuns ops (runs ops) × ((parts : List (List (Operation ℕ))) → IsCutAtRuns ops parts → parts ≡ runs ops)
+
 -- The instructions of an operation that ends its block: the last ends it, with an offset where the operation has a target.
 pub record IsEnding (needed : List ℕ) (op : Operation ℕ) : Type 0 where
   pub block : IsBlock (record { instrs = lower_op needed op; target = aim_of needed op })
@@ -71,13 +76,13 @@ FrontGoesOn [] = Unit {0}
 FrontGoesOn (op ∷ []) = Unit {0}
 FrontGoesOn (op ∷ next ∷ ops) = (ends_block op ≡ false) × FrontGoesOn (next ∷ ops)
 
--- only the first operation of a block may call the host, where another is behind it
+-- only the first operation of a block may call the host, and another comes after it
 abbrev pub CallIsFirst : List (Operation ℕ) → Type 0
 CallIsFirst [] = Unit {0}
 CallIsFirst (op ∷ ops) = AllByRecursion (λ x. is_call x ≡ false) ops × (is_call op ≡ true → 0 < length ops)
 
--- A block of operations is carried out by its instructions, also where it ends with a branch or a jump, and where it begins
--- with a call of the host.
+-- A block of operations is implemented by its instructions, also if it ends with a branch or a jump, or begins with a
+-- host call.
 abbrev pub BlocksAreCarried : Type 0
 BlocksAreCarried =
     (needed : List ℕ) (ops : List (Operation ℕ)) → AllByRecursion FitsInstructions ops → CallIsFirst ops → FrontGoesOn ops → 0 < length ops
@@ -109,7 +114,7 @@ BlocksAreAll = (given : Given) (lifted : Lifted) → IsLifted given lifted → a
 abbrev pub EntriesBegin : Type 0
 EntriesBegin = (given : Given) (lifted : Lifted) → IsLifted given lifted → (entry t : ℕ) → slice_get lifted.entries entry ≡ Some t → op_place (pieces lifted) (first_piece lifted (block_of lifted.begins t)) ≡ t
 
--- each operation stands in a block of the list
+-- each operation is in a block of the list
 abbrev pub BlocksStand : Type 0
 BlocksStand = (given : Given) (lifted : Lifted) → IsLifted given lifted → (t : ℕ) → t < length lifted.places → (b : Block) × (slice_get (lowered_blocks lifted).blocks (block_of lifted.begins t) ≡ Some b)
 

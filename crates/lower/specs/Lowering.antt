@@ -8,10 +8,8 @@ use Rattle.rv_decode.specs.declared.ops.Cond.TheVariants.{Eq, Ne, Lt, Ge, Ltu, G
 use Rattle.rv_decode.specs.declared.ops.Reg.{Reg}
 use Rattle.rv_decode.specs.declared.ops.Reg.TheVariants.{Zero, R}
 use Rattle.runs.specs.Blocks.{blocks, block_of}
-use Rattle.runs.specs.Joined.{joined}
 use Rattle.runs.specs.Numbers.{named}
 use Rattle.runs.specs.Pieces.{lowered}
-use Rattle.runs.specs.Groups.{parts}
 use Rattle.lift_blocks.specs.Operations.{Operation, Plain, Branch, Jal, Jalr, Pair, HostCall, Sbrk}
 use Rattle.lift_blocks.specs.Arithmetic.{of_cond}
 use Rattle.lift_blocks.specs.Listed.{Lifted, ends_block}
@@ -20,6 +18,7 @@ use Rattle.pvm_ops.specs.BlockList.{Block, BlockList}
 use Rattle.pvm_ops.specs.Fetch.{trap}
 use Rattle.lower.specs.Instructions.{rro, rxo, jump, load_imm_jump, load_imm_jump_ind, ecalli, sbrk, fallthrough, jump_ind, load_imm}
 use Rattle.lower.specs.Plain.{lower_plain}
+use Rattle.lower.specs.Constants.{begins_run, runs, value_of, constant}
 
 -- the opcode of a branch on two registers
 abbrev pub branch_opcode : Cond → ℕ
@@ -58,7 +57,7 @@ branch cond (R a) Zero = rxo (branch_zero_opcode cond) a 0
 branch cond Zero (R b) = rxo (zero_branch_opcode cond) b 0
 branch cond (R a) (R b) = rro (branch_opcode cond) a b
 
--- a jump with the number of the place behind it as its link
+-- a jump with the number of the place after it as its link
 abbrev pub jump_with : Reg → ℕ → Instr
 jump_with Zero link = jump
 jump_with (R d) link = load_imm_jump d link
@@ -94,7 +93,7 @@ lower_op needed (Pair temp rd link target) = pair temp rd link
 lower_op needed (HostCall number) = ecalli number ∷ []
 lower_op needed Sbrk = sbrk 7 7 ∷ []
 
--- what stands behind an operation that ends its block, or doesn't
+-- the instructions after an operation that ends its block, or doesn't
 abbrev pub tail_if : Bool → List Instr
 tail_if true = []
 tail_if false = fallthrough ∷ []
@@ -143,15 +142,25 @@ is_call (Pair temp rd link target) = false
 is_call (HostCall number) = true
 is_call Sbrk = false
 
--- the instructions of operations of which none but the last calls the host: so far each is lowered alone
+-- the instruction of a run on a register; without a register, those of operations in no run
+abbrev pub run_instrs_on : List ℕ → Option ℕ → List (Operation ℕ) → List Instr
+run_instrs_on needed None ops = lowered (lower_op needed) ops
+run_instrs_on needed (Some d) ops = constant d (value_of 0 ops) ∷ []
+
+-- the instructions of a run, or of an operation that is in none
+abbrev pub run_instrs : List ℕ → List (Operation ℕ) → List Instr
+run_instrs needed [] = []
+run_instrs needed (op ∷ ops) = run_instrs_on needed (begins_run op) (op ∷ ops)
+
+-- the instructions of operations of a block: each maximal run is one constant, and what is in no run is lowered alone
 abbrev pub part_instrs : List ℕ → List (Operation ℕ) → List Instr
-part_instrs needed ops = lowered (lower_op needed) ops
+part_instrs needed ops = lowered (run_instrs needed) (runs ops)
 
 -- the instructions of a block
 abbrev pub block_instrs : List ℕ → List (Operation ℕ) → List Instr
-block_instrs needed ops = joined (map (part_instrs needed) (parts is_call ops)) ++ tail_of ops
+block_instrs needed ops = part_instrs needed ops ++ tail_of ops
 
--- its target as the block in which that stands
+-- its target as the block that holds it
 abbrev pub lower_block : List ℕ → List Bool → List (Operation ℕ) → Block
 lower_block needed begins ops = record { instrs = block_instrs needed ops; target = option_map (block_of begins) (aim_of_last needed ops) }
 

@@ -1,15 +1,16 @@
 //! The instructions of one block, added to a list of blocks.
 
-ghost use Rattle.std.specs.Prelude.{◌≡◌, ◌<◌, ◌≤◌, ◌^◌, length, slice_range, IfSome, OnOk};
+ghost use Rattle.std.specs.Prelude.{◌≡◌, ◌∷◌, ◌<◌, ◌≤◌, ◌^◌, length, slice_range, IfSome, IfOk, OnOk};
 ghost use Rattle.std.specs.Option.{option_map};
 ghost use Rattle.runs.specs.Blocks.{block_of};
-ghost use Rattle.runs.specs.Pieces.{lowered};
 ghost use Rattle.lift_blocks.specs.Kept.{operation_of};
 ghost use Rattle.lift_blocks.specs.Listed.{ends_block, target_of};
 ghost use Rattle.lower.specs.Building.{AreBlockNumbers, aimed_at, extended, one_if, with_block};
-ghost use Rattle.lower.specs.Lowering.{aim_of, lower_block, lower_op, tail_if};
+ghost use Rattle.lower.specs.Constants.{runs};
+ghost use Rattle.lower.specs.Lowering.{aim_of, lower_block, part_instrs, run_instrs, tail_if};
 ghost use Rattle.lower.specs.Plain.{listed};
 
+use crate::constants::{begins_run, constant, run_on};
 use crate::forms::Three;
 use crate::transfers::{ends_block, fallthrough, instructions, target};
 use lift_blocks::{Lifted, SourceOp};
@@ -37,7 +38,8 @@ pub(crate) fn lower_block(
     Ok(())
 }
 
-/// Adds the instructions of these operations to the last block.
+/// Adds the instructions of these operations to the last block: a constant for each run, and those of each operation in
+/// none.
 fn add_operations(
     blocks: &mut Blocks,
     lifted: &Lifted,
@@ -47,13 +49,37 @@ fn add_operations(
     requires some { 0 < length blocks.old.blocks }
     requires order { from ≤ to }
     requires within { to ≤ length lifted.now.ops }
-    ensures { OnOk result (blocks.new ≡ extended (lowered (lower_op lifted.now.needed) (slice_range lifted.now.ops from to)) blocks.old) }
+    ensures { OnOk result (blocks.new ≡ extended (part_instrs lifted.now.needed (slice_range lifted.now.ops from to)) blocks.old) }
 {
-    for at in from..to {
-        let op = lifted.operation(at);
-        push_all(blocks, &instructions(lifted, &op))?;
+    let mut at = from;
+    while at < to {
+        at = add_next(blocks, lifted, at, to)?;
     }
     Ok(())
+}
+
+/// Adds the instructions of the run that begins with an operation, or of the operation, and gives the number of the next.
+fn add_next(blocks: &mut Blocks, lifted: &Lifted, from: u32, to: u32) -> Result<u32, AllocError>
+    requires some { 0 < length blocks.old.blocks }
+    requires next { from < to }
+    requires within { to ≤ length lifted.now.ops }
+    ensures after { IfOk result (λ at. from < at) }
+    ensures within { IfOk result (λ at. at ≤ to) }
+    ensures first { IfOk result (λ at. runs (slice_range lifted.now.ops from to) ≡ slice_range lifted.now.ops from at ∷ runs (slice_range lifted.now.ops at to)) }
+    ensures added { IfOk result (λ at. blocks.new ≡ extended (run_instrs lifted.now.needed (slice_range lifted.now.ops from at)) blocks.old) }
+{
+    let op = lifted.operation(from);
+    match begins_run(&op) {
+        Some(register) => {
+            let run = run_on(lifted, register, from, to);
+            blocks.push(constant(register, run.value))?;
+            Ok(run.end)
+        },
+        None => {
+            push_all(blocks, &instructions(lifted, &op))?;
+            Ok(from + 1)
+        },
+    }
 }
 
 /// Ends the last block with its last operation: with a fallthrough, where that does not end it, and with its target.

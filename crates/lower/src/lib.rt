@@ -1,12 +1,13 @@
 //! Lowering: the instructions of operations, and of each block of them.
 //!
 //! `lower` gives the blocks of a program, and its laws say that the instructions of a block do what its operations do.
-//! Each operation is lowered by itself.
+//! A maximal run of constants on one register is one instruction, and each other operation is lowered alone.
 #![tactic(auto)]
 
-ghost use Rattle.lower.specs.Laws.{WordsAreLowerable, OperationsAreLowered, AllAreLowered, CallsAreLowered, EndingsArePlaceable, BlocksAreCarried, BlocksArePlaceable, LoweredIsCut, BlocksAreAll, EntriesBegin, BlocksStand, SameInstrs, SamePlaces, LoweredIsPlaceable};
+ghost use Rattle.lower.specs.Laws.{WordsAreLowerable, OperationsAreLowered, AllAreLowered, CallsAreLowered, RunsAreMaximal, EndingsArePlaceable, BlocksAreCarried, BlocksArePlaceable, LoweredIsCut, BlocksAreAll, EntriesBegin, BlocksStand, SameInstrs, SamePlaces, LoweredIsPlaceable};
 
 mod block;
+mod constants;
 mod forms;
 mod operations;
 mod program;
@@ -18,21 +19,22 @@ use lift_blocks::calls_begin_blocks;
 pub use operations::lower_operation;
 pub use program::lower;
 
-/// A word's operation can be lowered by itself, unless it is a jump or a branch, and the instructions of such an
+/// A word's operation can be lowered alone, unless it is a jump or a branch, and the instructions of such an
 /// operation do what it does. So do those of jumps and branches, which can be placed with their offsets, and of calls of the
-/// host.
+/// host. The runs that are joined are maximal.
 pub fn operations_are_carried_out()
     ensures words { WordsAreLowerable }
     ensures effects { OperationsAreLowered }
     ensures jumps { AllAreLowered }
     ensures calls { CallsAreLowered }
+    ensures runs { RunsAreMaximal }
     ensures endings { EndingsArePlaceable }
     ensures carried { BlocksAreCarried }
     ensures placeable { BlocksArePlaceable }
 {}
 
-/// What the link rests on: each block is carried out, together they are all operations, entries begin blocks, and the
-/// list of blocks has the same instructions in the same places and can be placed.
+/// What the link rests on: each block is implemented by its instructions, together they are all operations, entries begin
+/// blocks, and the list of blocks has the same instructions in the same places and can be placed.
 pub fn blocks_are_carried_out()
     ensures cut { LoweredIsCut }
     ensures all { BlocksAreAll }

@@ -6,7 +6,7 @@ use page_memory::Mode;
 use pvm_machine::{Exit, Machine, Step};
 use std::test::*;
 
-// Containers without data and without a stack. Their programs begin behind 15 bytes.
+// Containers without data and without a stack. Their programs begin after 15 bytes.
 
 /// ecalli 42, fallthrough
 const CALLS: [u8; 22] = [
@@ -52,7 +52,7 @@ fn runs_stop_at_a_call(rt: HostRuntime) -> Result<(), Fail> {
     Ok(())
 }
 
-/// What the register of an `sbrk` by a number of bytes takes. The machine stands at the `sbrk` before and after.
+/// The register of an `sbrk` by a number of bytes after it. The machine is at the `sbrk` before and after.
 fn grow(machine: &mut Machine<'_>, size: u64) -> (Step, u64) {
     machine.set_register(7, 1);
     machine.set_register(8, size);
@@ -127,7 +127,7 @@ fn the_heap_has_no_more_pages_than_the_limit(rt: HostRuntime) -> Result<(), Fail
     Ok(())
 }
 
-/// Where an allocation fails as well: the try of a test with `--fail-alloc` comes to each of them.
+/// An allocation may fail as well: a try of this test with `--fail-alloc` reaches each of them.
 #[test]
 fn a_growth_that_fails_changes_nothing(rt: HostRuntime) -> Result<(), Fail> {
     let container = Container::read(&GROWS)?;

@@ -4,6 +4,8 @@
 #[cfg(test)]
 mod access_tests;
 #[cfg(test)]
+mod core_tests;
+#[cfg(test)]
 mod heap_tests;
 #[cfg(test)]
 mod opcode_tests;

@@ -29,10 +29,10 @@ const RETURN: u64 = 0xffff_0000;
 /// Registers 7, 8 and 9.
 type Three = (u64, u64, u64);
 
-/// What a step left: its answer, the position where the machine stands, and registers 7, 8 and 9.
+/// The result of a step: its answer, the position of the machine, and registers 7, 8 and 9.
 type After = (Step, u64, Three);
 
-/// Does the instruction at the start of a code, with registers 7, 8 and 9 set. A `fallthrough` stands behind it.
+/// Executes the instruction at the start of a code, with registers 7, 8 and 9 set. A `fallthrough` comes after it.
 fn after(rt: &impl Abort, alloc: Global, instr: &[u8], registers: Three) -> Result<After, Fail> {
     assert!(rt; instr.len() <= 10);
     // no data, no zero pages and no stack
@@ -308,7 +308,7 @@ fn see_move(rt: &impl Abort, alloc: Global, row: (u8, u8, Three, (u64, u64))) ->
     Ok(())
 }
 
-/// The numbers that branches compare. The second stands in register 8, or as a byte in the code.
+/// The numbers that branches compare. The second is in register 8, or is a byte of the code.
 const COMPARED: [(u64, u64, u8); 3] = [(1, 1, 1), (1, ONES, 0xff), (ONES, 1, 1)];
 
 /// An opcode, and at which of these numbers a branch to its own position is taken.
@@ -399,7 +399,7 @@ const LESS: Three = (1, RETURN + 1, 3);
 const TRAPS_AND_JUMPS: [Row; 7] = [
     (&[0], BEFORE, (Step::Panic, 0, BEFORE)),
     (&[1], BEFORE, (Step::Next, 1, BEFORE)),
-    // to the block behind it, and to where none starts
+    // to the block after it, and to where none starts
     (&[40, 2], BEFORE, (Step::Next, 2, BEFORE)),
     (&[40, 1], BEFORE, (Step::Panic, 0, BEFORE)),
     // by a number: the one that returns, as a sum modulo 2^32 too, and one that names nothing

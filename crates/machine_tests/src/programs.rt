@@ -4,7 +4,7 @@ ghost use Rattle.std.specs.Prelude.{◌≤◌, length};
 
 use std::alloc::AllocError;
 
-/// Puts the length of a program and the program, whose code has one instruction and a `fallthrough` behind it. It has no
+/// Adds the length of a program and the program, whose code has one instruction and a `fallthrough` after it. It has no
 /// jump table.
 pub(crate) fn push_program(bytes: &mut Vec<u8>, instr: &[u8]) -> Result<(), AllocError>
     requires { length instr.now ≤ 10 }

@@ -6,7 +6,7 @@ use std::alloc::AllocError;
 /// A section header: name, type, flags, offset, size, link, info, alignment, entry size.
 pub type Header = (u32, u32, u64, u64, u64, u32, u32, u64, u64);
 
-/// The header of a file whose section headers stand at an offset. There are so many, and one has the names of sections.
+/// The header of a file with `count` section headers at an offset, one of which has the names of sections.
 pub fn put_file_header(
     sections_at: u64,
     count: u16,

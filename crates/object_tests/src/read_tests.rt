@@ -25,7 +25,7 @@ const SECTION_NAMES: &[u8; 69] =
 
 const SYMBOL_NAMES: &[u8; 10] = b"\0main\0buf\0";
 
-// Where fields stand in a section header, in a symbol and in a relocation.
+// The offsets of fields in a section header, in a symbol and in a relocation.
 const NAME: usize = 0;
 
 const TYPE: usize = 4;
@@ -420,7 +420,7 @@ fn refuses_names_symbols_and_relocations(rt: HostRuntime) -> Result<(), Fail> {
 
 #[test]
 fn tells_the_first_fault(rt: HostRuntime) -> Result<(), Fail> {
-    // a table, a form, a name, a symbol and a relocation, in this order though most stand in earlier sections
+    // a table, a form, a name, a symbol and a relocation, in this order though most are in earlier sections
     let table = (field(9, NAME), 1);
     let form = (field(3, FLAGS), 2);
     let name = (field(2, NAME), 69);

@@ -103,7 +103,7 @@ fn put_names(rows: &[Row; 5], out: &mut Vec<u8>) -> Result<(), AllocError> {
     Ok(())
 }
 
-/// Objects and wanted names, with what they tell.
+/// Objects and wanted names, with the expected results.
 #[derive(Clone, Copy)]
 struct Case {
     shows: &'static str,
@@ -124,7 +124,7 @@ const EMPTY: Parts = (
     [NO_RELOCATION, NO_RELOCATION],
 );
 
-/// A case of two such objects, which tells nothing.
+/// A case of two such objects, without a result.
 const NOTHING: Case = Case {
     shows: "nothing",
     objects: [EMPTY, EMPTY],
@@ -199,7 +199,7 @@ fn entry_of(
     assert!(rt; entry < wanted.entries() as usize);
     resolved.entry(entry as u32)
 }
-/// Compares what a case tells with what it is to tell.
+/// Compares the results of a case with the expected ones.
 fn expect(rt: &impl Abort, alloc: Global, case: &Case) -> Result<(), Fail> {
     let first = file_of(alloc, &case.objects[0])?;
     let second = file_of(alloc, &case.objects[1])?;

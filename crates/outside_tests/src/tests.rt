@@ -1,5 +1,5 @@
-//! What no clause says: that calls succeed, what the system's files hold, and how calls that are
-//! told to fail go on.
+//! What no clause says: that calls succeed, what the system's files hold, and how calls go on that
+//! were asked to fail.
 
 use outside::{
     Bytes, Failed, Folder, MemoryFolder, MemorySink, ReadFault, RealFolder, RealSink, Sink,

@@ -8,6 +8,6 @@ use Rattle.page_memory.specs.contracts.frames.Frame.{the_row}
 abbrev pub with_bytes : Frame → List ℕ → Frame
 with_bytes frame bytes = record frame { bytes = bytes }
 
--- the frame ends with the last bytes behind r
+-- the frame ends with the last bytes of the reference
 abbrev pub LendsBytes : MutBor Frame → MutBor (List ℕ) → Fml
 LendsBytes frame r = Lends the_row (Array u8 0) frame r (with_bytes frame.now)

@@ -1,6 +1,6 @@
 -- How a memory keeps its pages: in a page table of two levels, the root and its leaves, with 1,024 places each. A page
 -- that is kept with the mode Unmapped is reserved, and no page of the memory.
-use Rattle.std.specs.Prelude.{◌≡◌, ℕ, zero, suc, ◌+◌, ◌/◌, ◌%◌, ◌<◌, ◌≤◌, ◌^◌, List, [], ◌∷◌, length, Bool, true, ◌&&◌, nat_le, slice_index_or, slice_set, Option, Some, None, IsSome}
+use Rattle.std.specs.Prelude.{◌≡◌, ℕ, zero, suc, ◌+◌, ◌/◌, ◌%◌, ◌<◌, ◌≤◌, ◌^◌, List, [], ◌∷◌, length, Bool, true, false, ◌&&◌, nat_lt, nat_le, slice_index_or, slice_set, Option, Some, None, IsSome}
 use Rattle.std.specs.FinMap as map
 use Rattle.machine_state.specs.Memory as model
 use Rattle.page_memory.specs.Access.{page_allows}
@@ -80,9 +80,13 @@ pages_below table (suc number) = with_page (pages_below table number) number (pa
 unfoldable pub memory_of : List Leaf → model.Memory
 memory_of table = pages_below table (2 ^ 20)
 
--- no page has an address below 2^16
-abbrev pub HasNoLowPage : model.Memory → Type 0
-HasNoLowPage memory = (number : ℕ) → number < 16 → map.get memory number ≡ None
+-- pages have the numbers from 16 on, below 2^20
+abbrev pub is_page_number : ℕ → Bool
+is_page_number number = nat_le 16 number && nat_lt number (2 ^ 20)
+
+-- so their addresses are those from 2^16 on, below 2^32: no page has another number
+abbrev pub HasAddresses : model.Memory → Type 0
+HasAddresses memory = (number : ℕ) → is_page_number number ≡ false → map.get memory number ≡ None
 
 -- the bytes of a page with others from an offset on
 unfoldable pub with_bytes_from : List ℕ → ℕ → List ℕ → List ℕ

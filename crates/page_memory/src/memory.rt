@@ -4,7 +4,7 @@ ghost use Rattle.machine_state.specs.Memory.{no_memory};
 ghost use Rattle.machine_state.specs.Output.{page_at};
 ghost use Rattle.page_memory.specs.Access.{byte_of, with_bytes, is_refused};
 ghost use Rattle.page_memory.specs.Answers.{mode_of};
-ghost use Rattle.page_memory.specs.Pages.{with_page, takes, HasNoLowPage};
+ghost use Rattle.page_memory.specs.Pages.{with_page, takes, HasAddresses};
 ghost use Rattle.page_memory.specs.Mapping.{with_mode};
 
 use crate::mode::Mode;
@@ -25,7 +25,7 @@ impl Model for Memory {
     ghost use Rattle.std.specs.FinMap as map;
     ghost use Rattle.machine_state.specs.Memory as model;
     ghost use Rattle.machine_state.specs.Codes.{memory_code};
-    ghost use Rattle.page_memory.specs.Pages.{memory_of, HasNoLowPage};
+    ghost use Rattle.page_memory.specs.Pages.{memory_of, HasAddresses};
 
     ghost Value = { model.Memory };
 
@@ -33,7 +33,7 @@ impl Model for Memory {
 
     ghost view = { λ m. memory_of m.pages };
 
-    ghost invariant = { λ m. (m.mapped ≡ map.len (memory_of m.pages)) × HasNoLowPage (memory_of m.pages) };
+    ghost invariant = { λ m. (m.mapped ≡ map.len (memory_of m.pages)) × HasAddresses (memory_of m.pages) };
 }
 
 impl Memory {
@@ -81,9 +81,9 @@ impl Memory {
         }
     }
 
-    /// Pages begin at number 16, so none has an address below 2^16. A law: it does nothing.
-    pub fn pages_begin_at_16(&self)
-        ensures { HasNoLowPage self.now }
+    /// Pages have the numbers from 16 on, below 2^20: so addresses from 2^16 on, below 2^32. A law: it does nothing.
+    pub fn pages_have_numbers(&self)
+        ensures { HasAddresses self.now }
     {
         let _ = &self.pages;
     }

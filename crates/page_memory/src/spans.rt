@@ -62,7 +62,9 @@ impl Memory {
 
     /// Borrows the bytes of a range, where it is within one page that may be read. An empty range always is.
     pub fn lend(&self, at: u32, len: u32) -> Option<&[u8]>
-        ensures { option_copied result ≡ lent self.now at len }
+        ensures lent { option_copied result ≡ lent self.now at len }
+        ensures whole { IfSome result (λ bytes. length bytes.now ≡ len) }
+        ensures touched { IfSome result (λ bytes. bytes.now ≡ touched self.now at len) }
     {
         self.view(at, len)
     }

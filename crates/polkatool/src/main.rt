@@ -20,7 +20,7 @@ fn main(rt: HostRuntime) -> ExitCode {
     ExitCode::from(status.number())
 }
 
-/// The words of the command line. Where one of them is no text there are none at all, which is a faulty command line too.
+/// The arguments of the command line. If one of them isn't UTF-8 there are none at all, which is a usage error too.
 fn words_of(rt: &(impl Env + AllocGlobal)) -> Result<Words, AllocError> {
     let mut words = Words::new(rt.alloc());
     match env::args(rt) {

@@ -1,9 +1,8 @@
 -- What reads, writes and puts make of a command.
-use Rattle.std.proofs.Common.{◌≡◌, ◌≢◌, ℕ, zero, suc, ◌+◌, ◌-◌, ◌<◌, List, [], ◌∷◌, length, Option, Some, None, Err, refl, ap, ◌∙◌, subst, inl, inr, arith}
+use Rattle.std.proofs.Common.{◌≡◌, ℕ, zero, suc, ◌+◌, ◌<◌, List, [], ◌∷◌, length, Option, Some, None, Err, refl, ap, ◌∙◌, subst, inl, inr, arith}
 use Rattle.outside.specs.Outside.{Files, AnswersRead}
 use Rattle.outside.specs.declared.folder.ReadFault.{ReadFault}
 use Rattle.outside.specs.declared.folder.ReadFault.TheVariants.{TooLarge}
-use Rattle.elf_objects.specs.declared.fault.Fault.{Fault}
 use Rattle.runs.specs.Runs.{Paid}
 use Rattle.machine_state.specs.State.{State}
 use Rattle.machine_state.specs.Ends.{Event, End}
@@ -15,7 +14,7 @@ use Rattle.polkatool_cmd.specs.declared.answer.Answer.{Answer}
 use Rattle.polkatool_cmd.specs.declared.answer.Answer.TheVariants as answers
 use Rattle.polkatool_cmd.specs.RunWords.{RunCommand}
 use Rattle.polkatool_cmd.specs.ExecWords.{ExecCommand}
-use Rattle.transcript.specs.Telling.{IsStopped}
+use Rattle.transcript.specs.Telling.{LacksMemory}
 use Rattle.polkatool_cmd.specs.Answers.{HoldsRun, HoldsExec, HasRun, StoppedRun, RunComesTo, ExecComesTo}
 use Rattle.polkatool_cmd.specs.Snapshot.{Snapshot, Stream, Holds}
 use Rattle.polkatool_cmd.specs.Running.{IsTold, Tells, EndsAs}
@@ -38,7 +37,7 @@ long-read (Some files) name limit fault is answer =
     let P : ReadFault → Type 0 = λ f. AnswersRead (Some files) name limit (Err f) in
     subst P is answer
 
--- a run that ended with a status, and was told
+-- a run that ended with a status, and whose transcript was written
 has_run : (IsAsked : Paid Event End → Type 0) (run : Paid Event End) (status : Status) (old new : Snapshot)
     → IsAsked run
     → IsTold run status (record { text = old.out; puts = old.puts }) (record { text = new.out; puts = new.puts })
@@ -52,9 +51,14 @@ has_run IsAsked run status old new asked told others = record {
   others = others ∙ ap (λ puts. record old { out = new.out; puts = puts }) told.puts;
 }
 
+-- no put failed
+no_more_puts : (run : Paid Event End) (m : Machine) (old new : Stream) → LacksMemory run m old new → new.puts ≡ old.puts
+no_more_puts run m old new (inl stopped) = stopped.puts
+no_more_puts run m old new (inr stopped) = stopped.puts
+
 has_stopped : (IsAsked : Paid Event End → Type 0) (run : Paid Event End) (m : Machine) (old new : Snapshot)
     → IsAsked run
-    → IsStopped run m (record { text = old.out; puts = old.puts }) (record { text = new.out; puts = new.puts })
+    → LacksMemory run m (record { text = old.out; puts = old.puts }) (record { text = new.out; puts = new.puts })
     → new ≡ record old { out = new.out; puts = new.puts }
     → StoppedRun IsAsked old new
 has_stopped IsAsked run m old new asked told others = record {
@@ -62,10 +66,10 @@ has_stopped IsAsked run m old new asked told others = record {
   is_run = asked;
   machine = m;
   stopped = told;
-  others = others ∙ ap (λ puts. record old { out = new.out; puts = puts }) told.puts;
+  others = others ∙ ap (λ puts. record old { out = new.out; puts = puts }) (no_more_puts run m _ _ told);
 }
 
--- a run whose transcript was told on out, with nothing else changed
+-- a run whose transcript was written to standard output, with nothing else changed
 pub RunComesTo-told :
     (asked : RunCommand) (run : Paid Event End) (m : Machine) (answer : Answer) (old new : Snapshot)
     → HoldsRun old.files asked run
@@ -84,7 +88,7 @@ RunComesTo-told asked run m answers.FileFault old new holds told others =
     inr (inr (record { run = run; is_run = holds; told = told.told; cause = told.cause; others = others }))
 RunComesTo-told asked run m answers.Memory old new holds told others = inr (has_stopped (HoldsRun old.files asked) run m old new holds told others)
 
--- an exec whose transcript was told on out, with nothing else changed
+-- an exec whose transcript was written to standard output, with nothing else changed
 pub ExecComesTo-told :
     (asked : ExecCommand) (run : Paid Event End) (m : Machine) (answer : Answer) (old new : Snapshot)
     → HoldsExec old.files asked run
@@ -103,7 +107,7 @@ ExecComesTo-told asked run m answers.FileFault old new holds told others =
     inr (inr (record { run = run; is_run = holds; told = told.told; cause = told.cause; others = others }))
 ExecComesTo-told asked run m answers.Memory old new holds told others = inr (has_stopped (HoldsExec old.files asked) run m old new holds told others)
 
--- a run that was told to its end is told as its answer
+-- a run whose transcript was written to the end is reported by its answer
 tells_status : (run : Paid Event End) (m : Machine) (end : RunEnd) (status : Status) (old new : Stream) → telling.IsTold run m end old new → status_of (end_of end m.state) ≡ status → IsTold run status old new
 tells_status run m end status old new told is = record { ended = ap status_of told.ended ∙ is; told = told.told; puts = told.puts }
 

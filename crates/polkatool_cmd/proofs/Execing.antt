@@ -1,5 +1,5 @@
 -- What the parts of an exec make of it.
-use Rattle.std.proofs.Common.{◌≡◌, ℕ, ◌^◌, ◌≤◌, Bool, true, false, List, length, Option, Some, None, Result, Ok, refl, sym, ap, ◌∙◌, inl, inr, arith}
+use Rattle.std.proofs.Common.{◌≡◌, ℕ, ◌^◌, ◌≤◌, Bool, true, false, List, length, Option, Some, None, Result, Ok, refl, sym, ap, ◌∙◌, inl, inr}
 use Rattle.std.specs.Prelude.{nat_lt}
 use Rattle.std.proofs.lemmas.Bool.{le-ltb, lt-ltb, ltb-false}
 use Rattle.faults.specs.First.{◌or_else◌, where_true}
@@ -18,7 +18,7 @@ use Rattle.polkatool_cmd.specs.Faults.{file_too_large}
 use Rattle.polkatool_cmd.specs.LinkAnswers.{HasObjects}
 use Rattle.polkatool_cmd.specs.Linking.{IsTooLarge, FailsToReadOne}
 use Rattle.polkatool_cmd.specs.BlobFaults.{blob_fault, container_fault}
-use Rattle.polkatool_cmd.specs.RunFaults.{unbuilt_form, bad_entry_fault, run_fault_in, first_start_fault, replies_fault}
+use Rattle.polkatool_cmd.specs.RunFaults.{bad_entry_fault, run_fault_in, first_start_fault, replies_fault}
 use Rattle.polkatool_cmd.specs.declared.fault_codes.TheConstants.{ARGUMENT_TOO_LARGE}
 use Rattle.polkatool_cmd.specs.Running.{FailsToReadReplies}
 use Rattle.polkatool_cmd.specs.Snapshot.{Snapshot}
@@ -71,9 +71,8 @@ one_container file bytes c d same spelled is read =
 
 -- where a start has no fault, its argument isn't too long
 pub argument_fits : (entry : ℕ) (argument file : List ℕ) (c : Container) → first_start_fault entry argument file ≡ None → container_of file ≡ Ok c → length argument ≤ 2 ^ 24
-argument_fits entry argument file c none is = by_test (nat_lt (2 ^ 24) (length argument)) refl (unbuilt_form c) (sym (ap (container_fault (run_fault_in entry argument)) is) ∙ none)
+argument_fits entry argument file c none is = by_test (nat_lt (2 ^ 24) (length argument)) refl (sym (ap (container_fault (run_fault_in entry argument)) is) ∙ none)
   where
-    by_test : (b : Bool) → nat_lt (2 ^ 24) (length argument) ≡ b → (unbuilt : Option Fault) → (unbuilt or_else where_true b (blob_fault ARGUMENT_TOO_LARGE) or_else bad_entry_fault entry c) ≡ None → length argument ≤ 2 ^ 24
-    by_test false short unbuilt e = ltb-false (2 ^ 24) (length argument) short
-    by_test true long None e = absurd cc
-    by_test true long (Some fault) e = absurd cc
+    by_test : (b : Bool) → nat_lt (2 ^ 24) (length argument) ≡ b → (where_true b (blob_fault ARGUMENT_TOO_LARGE) or_else bad_entry_fault entry c) ≡ None → length argument ≤ 2 ^ 24
+    by_test false short e = ltb-false (2 ^ 24) (length argument) short
+    by_test true long e = absurd cc

@@ -4,11 +4,11 @@ use Rattle.std.proofs.lemmas.List.Sums.{suffix_len_is}
 use Rattle.std.specs.List.{suffix_len, before_last, after_last}
 use Rattle.polkatool_cmd.specs.LinkWords.{is_equals_sign}
 
--- no '=' stands at a place or behind it
+-- there is no '=' at an index or after it
 abbrev pub NoneFrom : ℕ → List ℕ → Type 0
 NoneFrom end value = (k : ℕ) → end ≤ k → k < length value → is_equals_sign (get_or value k 0) ≡ false
 
--- the part behind the last '=', which stands before `end`, where one stands at all
+-- the part after the last '=' before `end`, if there is one
 behind_last :
     (end : ℕ) (value : List ℕ) → end ≤ length value → NoneFrom end value
     → (0 < end → is_equals_sign (get_or value (end - 1) 0) ≡ true)

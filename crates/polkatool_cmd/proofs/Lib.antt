@@ -9,3 +9,6 @@ mod Answering
 mod Reading
 mod Blobs
 mod Execing
+mod Completing
+mod CompletingRuns
+mod CompletingAll

@@ -51,7 +51,7 @@ unfolding total
 total_more [] file = omega arith
 total_more (first ∷ files) file = omega (arith, total_more files file)
 
--- what has been read of names of which so many bytes are left
+-- the files read of the given names, with the bytes that are left for the rest
 pub record HasReadSoFar (told : Option Files) (names files : List (List ℕ)) (at left : ℕ) : Type 0 where
   pub count : length files ≡ at
   pub held : HoldFiles told names files

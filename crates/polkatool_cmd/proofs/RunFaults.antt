@@ -1,5 +1,5 @@
 -- The first fault of the files of a run.
-use Rattle.std.proofs.Common.{◌≡◌, ℕ, ◌*◌, ◌^◌, ◌<◌, ◌≤◌, List, length, Bool, true, false, Option, Some, None, Ok, Err, refl, inl, inr}
+use Rattle.std.proofs.Common.{◌≡◌, ℕ, ◌*◌, ◌^◌, ◌<◌, ◌≤◌, List, length, false, Option, Some, None, Ok, Err, refl, inl, inr}
 use Rattle.std.proofs.lemmas.Bool.{cases_lt, le-ltb, lt-ltb, true_from_ne_false}
 use Rattle.elf_objects.specs.declared.fault.Fault.{Fault}
 use Rattle.blob_check.specs.Starts.{is_start}
@@ -8,20 +8,19 @@ use Rattle.blob_codec.specs.Reading.{container_of}
 use Rattle.transcript.specs.Hosts.{Reply}
 use Rattle.transcript.specs.Grammar.{replies_of}
 use Rattle.polkatool_cmd.specs.Faults.{too_large, file_too_large}
-use Rattle.polkatool_cmd.specs.RunFaults.{unbuilt_form, first_start_fault, first_run_fault, bad_reply_line}
+use Rattle.polkatool_cmd.specs.RunFaults.{first_start_fault, first_run_fault, bad_reply_line}
 
 -- a container that can be started
 pub first_start_fault-none :
     (entry : ℕ) (argument file : List ℕ) (c : Container) → container_of file ≡ Ok c
-    → unbuilt_form c ≡ None → (2 ^ 24 < length argument → ⊥)
+    → (2 ^ 24 < length argument → ⊥)
     → ((length argument ≤ 2 ^ 24) × (is_start c.program.code (5 * entry) ≡ false) → ⊥)
     → first_start_fault entry argument file ≡ None
-first_start_fault-none entry argument file c is built fits starts = elim (cases_lt (2 ^ 24) (length argument)) [
+first_start_fault-none entry argument file c is fits starts = elim (cases_lt (2 ^ 24) (length argument)) [
   | inl more ↦ absurd (fits more)
   | inr within ↦
       rw (
         is,
-        built,
         le-ltb (2 ^ 24) (length argument) within,
         true_from_ne_false (is_start c.program.code (5 * entry)) (λ none. starts (within, none)),
       ) refl

@@ -1,4 +1,4 @@
--- What a command comes to, and how that is told.
+-- The result of each command, and how it is reported.
 use Rattle.std.specs.Prelude.{◌≡◌, ◌<◌, ◌≤◌, ◌^◌, ◌⊎◌, ℕ, List, length, Option, Some, None, Ok}
 use Rattle.std.specs.Io.KnownBytes.{Appends}
 use Rattle.outside.specs.Outside.{Files, Rose, AppendsFront, KeepsOthers}
@@ -11,9 +11,9 @@ use Rattle.blob_codec.specs.Reading.{container_of}
 use Rattle.disasm.specs.Disassembly.{disassembly}
 use Rattle.pvm_machine.specs.Machine.{Machine}
 use Rattle.transcript.specs.Grammar.{replies_of}
-use Rattle.transcript.specs.Hosts.{Reply, replying, start_host}
+use Rattle.transcript.specs.Hosts.{Reply, answering, start_host}
 use Rattle.transcript.specs.Lines.{transcript}
-use Rattle.transcript.specs.Telling.{IsStopped}
+use Rattle.transcript.specs.Telling.{LacksMemory}
 use Rattle.link_core.specs.Faults.{input_of}
 use Rattle.link_core.specs.Runs.{source_run, machine_run}
 use Rattle.link_core.specs.Linked.{Linked}
@@ -53,7 +53,7 @@ pub record HoldsRun (files : Option Files) (asked : RunCommand) (run : Paid Even
   pub is_container : container_of blob ≡ Ok container
   pub replies : List Reply
   pub are_replies : replies_of file ≡ Ok replies
-  pub run_is : run ≡ machine_run replying (start_host replies) container asked.settings.entry asked.settings.argument asked.settings.gas
+  pub run_is : run ≡ machine_run answering (start_host replies) container asked.settings.entry asked.settings.argument asked.settings.gas
 
 -- The files of a run have this first fault. The file of replies is read where the blob's file isn't too large.
 pub record HasRunFault (files : Option Files) (asked : RunCommand) (fault : Fault) : Type 0 where
@@ -89,18 +89,18 @@ pub record FailedTranscript (IsAsked : Paid Event End → Type 0) (old new : Sna
   pub cause : Rose old.puts new.puts
   pub others : new ≡ record old { out = new.out; puts = new.puts }
 
--- An allocation failed at an `sbrk` that would map pages, where the run's machine had come to. The lines of the calls
--- before it were put, a prefix of the transcript; all else is as before.
+-- An allocation failed when the run reached an `sbrk` that would map pages, or a call on inner machines that allocates.
+-- The lines of the calls up to there were written, a prefix of the transcript; all else is as before.
 pub record StoppedRun (IsAsked : Paid Event End → Type 0) (old new : Snapshot) : Type 0 where
   pub run : Paid Event End
   pub is_run : IsAsked run
   pub machine : Machine
-  pub stopped : IsStopped run machine (record { text = old.out; puts = old.puts }) (record { text = new.out; puts = new.puts })
+  pub stopped : LacksMemory run machine (record { text = old.out; puts = old.puts }) (record { text = new.out; puts = new.puts })
   pub others : new ≡ record old { out = new.out }
 
--- What a run comes to: it ended, as the answer says, and is told; or it is refused with the first fault of its files at the
--- entry and with the argument; or a read or a put failed; or an allocation failed, before anything was put or at an
--- `sbrk`. After a refusal all is as before.
+-- The result of a run: it ended, as the answer says, and its transcript is written; or it is refused with the first fault
+-- of its files, the entry and the argument; or a read or a write failed; or an allocation failed, before anything was
+-- written or at an `sbrk` or a call. After a refusal all is as before.
 abbrev pub RunComesTo : RunCommand → Answer → Snapshot → Snapshot → Type 0
 RunComesTo asked answers.Done old new = HasRun (HoldsRun old.files asked) statuses.Done old new
 RunComesTo asked answers.Panicked old new = HasRun (HoldsRun old.files asked) statuses.Panicked old new
@@ -126,10 +126,10 @@ pub record HoldsExec (files : Option Files) (asked : ExecCommand) (run : Paid Ev
   pub replies : List Reply
   pub are_replies : replies_of file ≡ Ok replies
   pub no_start_fault : first_start_fault asked.settings.entry asked.settings.argument linked.container ≡ None
-  pub run_is : run ≡ machine_run replying (start_host replies) links.holds.container asked.settings.entry asked.settings.argument asked.settings.gas
+  pub run_is : run ≡ machine_run answering (start_host replies) links.holds.container asked.settings.entry asked.settings.argument asked.settings.gas
   pub agrees : asked.settings.entry < length asked.input.wanted.entries
-      → Agree (source_run replying (start_host replies) (input_of links.files asked.input.wanted) asked.settings.entry asked.settings.argument)
-      (machine_run replying (start_host replies) links.holds.container asked.settings.entry asked.settings.argument)
+      → Agree (source_run answering (start_host replies) (input_of links.files asked.input.wanted) asked.settings.entry asked.settings.argument)
+      (machine_run answering (start_host replies) links.holds.container asked.settings.entry asked.settings.argument)
 
 -- The objects' files are read, and the file of replies has this fault.
 pub record HasRepliesFault (told : Option Files) (asked : ExecCommand) (fault : Fault) : Type 0 where
@@ -163,9 +163,10 @@ pub record FailedExecReplies (asked : ExecCommand) (old new : Snapshot) : Type 0
   pub is_name : asked.settings.replies ≡ Some name
   pub failed : FailedRead name old new
 
--- What an exec comes to: the run ended, as the answer says, and is told; or it is refused, with the first file that is too
--- large, or else the first fault of the file of replies, of the objects, or of the start; or a read or a put failed; or an
--- allocation failed, before anything was put or at an `sbrk`. After a refusal all is as before.
+-- The result of an exec: the run ended, as the answer says, and its transcript is written; or it is refused, with the
+-- first file that is too large, or else the first fault of the file of replies, of the objects, or of the start; or a read
+-- or a write failed; or an allocation failed, before anything was written or at an `sbrk` or a call. After a refusal all is
+-- as before.
 abbrev pub ExecComesTo : ExecCommand → Answer → Snapshot → Snapshot → Type 0
 ExecComesTo asked answers.Done old new = HasRun (HoldsExec old.files asked) statuses.Done old new
 ExecComesTo asked answers.Panicked old new = HasRun (HoldsExec old.files asked) statuses.Panicked old new
@@ -188,7 +189,7 @@ pub record HasTold (first_of : List ℕ → Option Fault) (text_of : Container �
   pub told : Appends old.out new.out (text_of container)
   pub others : new ≡ record old { out = new.out }
 
--- A put of the container's text failed after a front of it; all else is as before.
+-- A write of the container's text failed after a prefix of it; all else is as before.
 pub record FailedText (first_of : List ℕ → Option Fault) (text_of : Container → List ℕ) (blob : List ℕ)
     (old new : Snapshot) : Type 0 where
   pub container : Container
@@ -197,9 +198,9 @@ pub record FailedText (first_of : List ℕ → Option Fault) (text_of : Containe
   pub cause : Rose old.puts new.puts
   pub others : new ≡ record old { out = new.out; puts = new.puts }
 
--- What a command comes to that puts a text of a container: the text is put; or the command is refused with the first
--- fault of the blob's file; or a read or a put failed; or memory was refused. After a refusal and after want of memory
--- all is as before.
+-- The result of a command that writes a text of a container: the text is written; or the command is refused with the
+-- first fault of the blob's file; or a read or a write failed; or an allocation failed. After a refusal and after a failed
+-- allocation all is as before.
 abbrev pub TextComesTo : (List ℕ → Option Fault) → (Container → List ℕ) → List ℕ → Answer → Snapshot → Snapshot → Type 0
 TextComesTo first_of text_of blob answers.Done old new = HasTold first_of text_of blob old new
 TextComesTo first_of text_of blob (answers.Refused fault) old new =
@@ -214,16 +215,16 @@ TextComesTo first_of text_of blob answers.FileFault old new =
     FailedRead blob old new ⊎ FailedText first_of text_of blob old new
 TextComesTo first_of text_of blob answers.Memory old new = new ≡ old
 
--- what a check comes to: its text says that there is no fault
+-- the result of a check: its text says that there is no fault
 abbrev pub CheckComesTo : List ℕ → Answer → Snapshot → Snapshot → Type 0
 CheckComesTo blob answer old new = TextComesTo first_check_fault (λ c. ok_text) blob answer old new
 
--- what a disassembly comes to: it is the text, and every container has one
+-- the result of a disassembly: the text, and every container has one
 abbrev pub DisassembleComesTo : List ℕ → Answer → Snapshot → Snapshot → Type 0
 DisassembleComesTo blob answer old new =
     TextComesTo first_disassemble_fault (λ c. disassembly c.program) blob answer old new
 
--- What the words come to: a faulty command line is answered as one, and all is as before.
+-- The result of the arguments: a usage error is reported as one, and all is as before.
 abbrev pub ComesTo : Option Command → Answer → Snapshot → Snapshot → Type 0
 ComesTo None answer old new = (answer ≡ answers.Usage) × (new ≡ old)
 ComesTo (Some (Link link)) answer old new = LinkComesTo link answer old new
@@ -232,13 +233,13 @@ ComesTo (Some (Exec exec)) answer old new = ExecComesTo exec answer old new
 ComesTo (Some (Check blob)) answer old new = CheckComesTo blob answer old new
 ComesTo (Some (Disassemble blob)) answer old new = DisassembleComesTo blob answer old new
 
--- the line was put on err, and the status is the wanted one
+-- the line was written to standard error, and the status is the wanted one
 pub record IsPut (line : List ℕ) (wanted status : Status) (old new : Stream) : Type 0 where
   pub status_is : status ≡ wanted
   pub put : Appends old.text new.text line
   pub others : new.puts ≡ old.puts
 
--- the put failed after a front of the line, and the status is that of a file fault
+-- the write failed after a prefix of the line, and the status is that of a file fault
 pub record IsNotPut (line : List ℕ) (status : Status) (old new : Stream) : Type 0 where
   pub status_is : status ≡ statuses.FileFault
   pub put : AppendsFront old.text new.text line
@@ -247,7 +248,7 @@ pub record IsNotPut (line : List ℕ) (status : Status) (old new : Stream) : Typ
 abbrev pub Puts : List ℕ → Status → Status → Stream → Stream → Type 0
 Puts line wanted status old new = IsPut line wanted status old new ⊎ IsNotPut line status old new
 
--- how an answer is told: by its status and its line on err, if it has one
+-- how an answer is reported: by its status and its line on standard error, if it has one
 abbrev pub Reports : Answer → Status → Stream → Stream → Type 0
 Reports answers.Done status old new = (status ≡ statuses.Done) × (new ≡ old)
 Reports answers.Panicked status old new = (status ≡ statuses.Panicked) × (new ≡ old)
@@ -260,7 +261,7 @@ Reports answers.Usage status old new = Puts usage_line statuses.Usage status old
 Reports answers.FileFault status old new = Puts file_fault_line statuses.FileFault status old new
 Reports answers.Memory status old new = Puts memory_line statuses.Memory status old new
 
--- What the words come to is told.
+-- The result of the arguments is reported.
 pub record Concludes (command : Option Command) (status : Status) (old new : Snapshot) (err err' : Stream) : Type 0 where
   pub answer : Answer
   pub comes : ComesTo command answer old new

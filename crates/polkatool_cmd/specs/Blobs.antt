@@ -1,4 +1,4 @@
--- What the parts of a command that reads a container come to.
+-- The results of the parts of a command that reads a container.
 use Rattle.std.specs.Prelude.{◌≡◌, ◌⊎◌, ℕ, ◌^◌, ◌<◌, ◌≤◌, List, length, Option, Some, None}
 use Rattle.std.specs.Io.KnownBytes.{Appends}
 use Rattle.outside.specs.Outside.{Files, Rose, Missing, AppendsFront}
@@ -27,8 +27,8 @@ FailsToReadBlob files name before now (answers.Refused fault) =
 FailsToReadBlob files name before now answers.Memory = now ≡ before
 FailsToReadBlob files name before now answer = ⊥
 
--- how the text of a container is told on a sink: by the whole text, or a put failed after a front of it; where there is
--- a fault the answer is that one, and nothing is put
+-- how the text of a container is written to a sink: the whole text, or a write failed after a prefix of it; if there is
+-- a fault, the answer is that one, and nothing is written
 abbrev pub TellsText : Option Fault → List ℕ → Answer → Stream → Stream → Type 0
 TellsText fault text answers.Done old new =
     (fault ≡ None) × Appends old.text new.text text × (new.puts ≡ old.puts)

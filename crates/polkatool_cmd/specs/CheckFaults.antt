@@ -10,7 +10,7 @@ use Rattle.blob_check.specs.declared.checking.CheckFault.TheVariants.{NoFirst, U
 use Rattle.polkatool_cmd.specs.BlobFaults.{blob_fault, blob_fault_at, first_blob_fault}
 use Rattle.polkatool_cmd.specs.declared.fault_codes.TheConstants.{NO_FIRST, UNKNOWN_OPCODE, BAD_TARGET, BAD_TABLE_ENTRY, OPEN_END}
 
--- how the fault of a program is told: its position, or the number of its entry, is the offset
+-- how the fault of a program is reported: its position, or the number of its entry, is the offset
 abbrev pub check_fault : CheckFault → Fault
 check_fault NoFirst = blob_fault NO_FIRST
 check_fault (UnknownOpcode at) = blob_fault_at UNKNOWN_OPCODE at

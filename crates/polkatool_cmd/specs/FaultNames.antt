@@ -1,6 +1,6 @@
 -- The names of faults by their codes.
 use Rattle.std.specs.Prelude.{ℕ, List, [], ◌∷◌, ◌++◌, ◌==◌, if◌then◌else◌, codes}
-use Rattle.elf_objects.specs.declared.fault.TheConstants.{NOT_ELF, WRONG_KIND, WRONG_FLAGS, BAD_TABLE, BAD_NAME, BAD_SYMBOL, BAD_RELOCATION, UNSUPPORTED_SECTION, NOT_BUILT}
+use Rattle.elf_objects.specs.declared.fault.TheConstants.{NOT_ELF, WRONG_KIND, WRONG_FLAGS, BAD_TABLE, BAD_NAME, BAD_SYMBOL, BAD_RELOCATION, UNSUPPORTED_SECTION}
 use Rattle.symbols.specs.declared.fault.TheConstants.{COMMON, DUPLICATE, UNDEFINED, ENTRY_MISSING, ENTRY_NOT_CODE}
 use Rattle.layout.specs.declared.fault.TheConstants.{READ_ONLY_TOO_LARGE, WRITABLE_TOO_LARGE, ZERO_TOO_LARGE, CODE_TOO_LARGE}
 use Rattle.link_core.specs.declared.linker.TheConstants.{CODE_BYTES_TOO_LARGE}
@@ -54,7 +54,7 @@ code_names =
     ∷ (CODE_BYTES_TOO_LARGE, codes "CodeBytesTooLarge")
     ∷ []
 
--- of containers, runs, checks and files, and of what is not supported yet: 40 to 63
+-- of containers, runs, checks and files: 40 to 61
 abbrev pub blob_names : List (ℕ × List ℕ)
 blob_names =
     (TRUNCATED, codes "Truncated")
@@ -71,7 +71,6 @@ blob_names =
     ∷ (OPEN_END, codes "OpenEnd")
     ∷ (BAD_REPLY_LINE, codes "BadReplyLine")
     ∷ (FILE_TOO_LARGE, codes "FileTooLarge")
-    ∷ (NOT_BUILT, codes "NotBuilt")
     ∷ []
 
 -- The name of a fault's code. A code without a fault has the empty name.

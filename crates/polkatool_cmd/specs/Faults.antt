@@ -11,7 +11,7 @@ file_too_large number = record { code = FILE_TOO_LARGE; object = number; section
 abbrev pub too_large : Fault
 too_large = file_too_large 0
 
--- how many bytes an object's file may have where so many are left of 2^26 for all
+-- how many bytes an object's file may have, by the number that is left of 2^26 for all
 abbrev pub limit_of : ℕ → ℕ
 limit_of left = min left (2 ^ 24)
 

@@ -19,5 +19,6 @@ pub mod BlobFaults
 pub mod RunFaults
 pub mod CheckFaults
 pub mod Answers
+pub mod Complete
 pub mod Running
 pub mod Blobs

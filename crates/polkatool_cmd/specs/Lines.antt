@@ -8,7 +8,7 @@ use Rattle.polkatool_cmd.specs.FaultNames.{fault_name}
 abbrev pub ok_text : List ℕ
 ok_text = codes "ok\n"
 
--- the lines on err for a faulty command line, for a call outside that failed, and for want of memory
+-- the lines on standard error for a usage error, for a failed read or write, and for a failed allocation
 abbrev pub usage_line : List ℕ
 usage_line = codes "polkatool: bad command line\n"
 

@@ -1,4 +1,4 @@
--- What a link comes to.
+-- The result of a link.
 use Rattle.std.specs.Prelude.{◌≡◌, ◌⊎◌, ℕ, List, [], ◌∷◌, length, Option, Some, None, slice_get}
 use Rattle.std.specs.Io.KnownBytes.{Appends}
 use Rattle.outside.specs.Outside.{Files, Rose, AppendsFront}
@@ -11,7 +11,7 @@ use Rattle.polkatool_cmd.specs.Snapshot.{Snapshot, Holds, FailedRead}
 use Rattle.polkatool_cmd.specs.declared.answer.Answer.{Answer}
 use Rattle.polkatool_cmd.specs.declared.answer.Answer.TheVariants as answers
 
--- the first of these names hold these files, one each, where files are told
+-- the first of these names hold these files, one each, if the contents of files are known
 abbrev pub HoldFiles : Option Files → List (List ℕ) → List (List ℕ) → Type 0
 HoldFiles told names [] = Unit {0}
 HoldFiles told [] (file ∷ files) = ⊥
@@ -66,7 +66,7 @@ pub record FailedWrite (link : LinkCommand) (old new : Snapshot) : Type 0 where
   pub cause : Rose old.writes new.writes
   pub others : new ≡ record old { files = new.files; writes = new.writes }
 
--- The output was written, and the put of the map failed after a front of it; all else is as before.
+-- The output was written, and a write of the map failed after a prefix of it; all else is as before.
 pub record FailedPut (link : LinkCommand) (old new : Snapshot) : Type 0 where
   pub linked : Linked
   pub links : LinksFiles old.files link.input linked
@@ -75,9 +75,9 @@ pub record FailedPut (link : LinkCommand) (old new : Snapshot) : Type 0 where
   pub cause : Rose old.puts new.puts
   pub others : new ≡ record old { files = new.files; out = new.out; puts = new.puts }
 
--- What a link comes to: it is done; or it is refused, with the first file that is too large, or else with the first fault of
--- the objects; or a read, a write or a put failed; or memory was refused. After a refusal and after want of memory all is
--- as before.
+-- The result of a link: it is done; or it is refused, with the first file that is too large, or else with the first fault
+-- of the objects; or a read or a write failed; or an allocation failed. After a refusal and after a failed allocation all
+-- is as before.
 abbrev pub LinkComesTo : LinkCommand → Answer → Snapshot → Snapshot → Type 0
 LinkComesTo link answers.Done old new = HasLinked link old new
 LinkComesTo link (answers.Refused fault) old new =

@@ -5,7 +5,6 @@ use Rattle.std.specs.Str.{bytes_eq}
 use Rattle.symbols.specs.declared.wanted.ImportKind.{ImportKind}
 use Rattle.symbols.specs.declared.wanted.ImportKind.TheVariants.{Host, Sbrk}
 use Rattle.symbols.specs.Wanted.{Import, Wanted}
-use Rattle.link_core.specs.Hosts.{is_inner}
 use Rattle.polkatool_cmd.specs.Items.{Item, items, value_in, file_in}
 use Rattle.polkatool_cmd.specs.Values.{file_value_of, number_below}
 
@@ -14,13 +13,9 @@ abbrev pub wanted_name : List ℕ → Option (List ℕ)
 wanted_name [] = None
 wanted_name (b ∷ bs) = Some (b ∷ bs)
 
--- the host call of a number, which is none of those on inner machines: these are not supported yet
-abbrev pub host_call : ℕ → Option ImportKind
-host_call number = if is_inner number then None else Some (Host number)
-
 -- what an import stands for: the host call of a number below 2^31, or `sbrk`
 abbrev pub kind_in_value : List ℕ → Option ImportKind
-kind_in_value word = if bytes_eq word (codes "sbrk") then Some Sbrk else option_and_then host_call (number_below (2 ^ 31) word)
+kind_in_value word = if bytes_eq word (codes "sbrk") then Some Sbrk else option_map (λ number. Host number) (number_below (2 ^ 31) word)
 
 abbrev pub import_with : Option (List ℕ) → Option ImportKind → Option Import
 import_with None kind = None
@@ -99,7 +94,7 @@ name_objects found =
 abbrev pub is_link : List Item → Bool
 is_link found = list_all is_of_link found && (length (outputs found) == 1) && name_objects found
 
--- the entries of a link: `main` alone where none is named
+-- the entries of a link: `main` alone by default
 abbrev pub or_main : List (List ℕ) → List (List ℕ)
 or_main [] = codes "main" ∷ []
 or_main (name ∷ names) = name ∷ names
@@ -141,7 +136,7 @@ link_from found =
     (slice_get (outputs found) 0)
     else None
 
--- The command that the words behind `link` are: in any order -o OUT, once; -e NAME and -i NAME=NUMBER or -i NAME=sbrk,
--- which repeat; --stack N, at most once; and OBJ, at least once. None where they are a faulty command line.
+-- The command of the arguments after `link`: in any order -o OUT, once; -e NAME and -i NAME=NUMBER or -i NAME=sbrk,
+-- which repeat; --stack N, at most once; and OBJ, at least once. None for a usage error.
 abbrev pub link_command_of : List (List ℕ) → Option LinkCommand
 link_command_of words = link_from (items words)

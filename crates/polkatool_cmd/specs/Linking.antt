@@ -1,4 +1,4 @@
--- What the parts of a link come to.
+-- The results of the parts of a link.
 use Rattle.std.specs.Prelude.{◌≡◌, ◌≤◌, ◌<◌, ◌⊎◌, ℕ, List, length, Option, Some, None, slice_get}
 use Rattle.outside.specs.Outside.{Files, Rose, Missing}
 use Rattle.elf_objects.specs.declared.fault.Fault.{Fault}
@@ -14,7 +14,7 @@ pub record FailsToRead (told : Option Files) (name : List ℕ) (before now : ℕ
   pub later : before ≤ now
   pub cause : Rose before now ⊎ Missing told name
 
--- the file of the name is too large where so many bytes are left
+-- the file of the name is larger than the number of bytes that are left
 pub record IsTooLarge (told : Option Files) (name : List ℕ) (left : ℕ) : Type 0 where
   pub file : List ℕ
   pub held : Holds told name file

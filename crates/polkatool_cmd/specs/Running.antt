@@ -1,4 +1,4 @@
--- What the parts of a run come to.
+-- The results of the parts of a run.
 use Rattle.std.specs.Prelude.{◌≡◌, ℕ, ◌^◌, ◌≤◌, List, [], length, Option, Some, None, Ok}
 use Rattle.std.specs.Io.KnownBytes.{Appends}
 use Rattle.runs.specs.Runs.{Paid}
@@ -9,7 +9,7 @@ use Rattle.blob_codec.specs.Reading.{container_of}
 use Rattle.pvm_machine.specs.Machine.{Machine}
 use Rattle.pvm_machine.specs.Started.{started}
 use Rattle.transcript.specs.Lines.{transcript}
-use Rattle.transcript.specs.Telling.{IsCutOff, IsStopped}
+use Rattle.transcript.specs.Telling.{IsCutOff, LacksMemory}
 use Rattle.polkatool_cmd.specs.RunWords.{Settings}
 use Rattle.polkatool_cmd.specs.RunFaults.{first_start_fault}
 use Rattle.polkatool_cmd.specs.Linking.{FailsToReadOne}
@@ -65,8 +65,8 @@ pub record IsTold (run : Paid Event End) (status : Status) (old new : Stream) : 
   pub told : Appends old.text new.text (transcript run)
   pub puts : new.puts ≡ old.puts
 
--- How a run is told on a sink: by its whole transcript; or a put failed after a prefix of it; or an allocation failed
--- where the machine stands.
+-- How a run is written to a sink: its whole transcript; or a write failed after a prefix of it; or an allocation failed
+-- at the machine's instruction.
 abbrev pub Tells : Paid Event End → Machine → Answer → Stream → Stream → Type 0
 Tells run m answers.Done old new = IsTold run statuses.Done old new
 Tells run m answers.Panicked old new = IsTold run statuses.Panicked old new
@@ -75,5 +75,5 @@ Tells run m answers.OutOfGas old new = IsTold run statuses.OutOfGas old new
 Tells run m answers.Unanswered old new = IsTold run statuses.Unanswered old new
 Tells run m answers.BadReply old new = IsTold run statuses.BadReply old new
 Tells run m answers.FileFault old new = IsCutOff run old new
-Tells run m answers.Memory old new = IsStopped run m old new
+Tells run m answers.Memory old new = LacksMemory run m old new
 Tells run m answer old new = ⊥

@@ -1,10 +1,10 @@
--- What stands outside the program, as contracts see it, and how a file is read from it.
+-- What is outside the program, as contracts see it, and how a file is read from it.
 use Rattle.std.specs.Prelude.{◌≡◌, ◌≤◌, ◌⊎◌, ℕ, List, Option}
 use Rattle.outside.specs.Outside.{Files, Rose, Missing, AnswersWrite}
 pub use Rattle.transcript.specs.Telling.{Stream}
 use Rattle.elf_objects.specs.declared.fault.Fault.{Fault}
 
--- What the folder and out tell, and how many reads, writes and puts the outside has failed.
+-- The contents of the folder and of standard output, and how many reads and writes have failed.
 pub record Snapshot : Type 0 where
   pub files : Option Files
   pub reads : ℕ
@@ -12,11 +12,11 @@ pub record Snapshot : Type 0 where
   pub out : Option (List ℕ)
   pub puts : ℕ
 
--- the name holds these bytes, where files are told: as after a write that succeeded
+-- the name holds these bytes, if the contents of files are known: as after a write that succeeded
 abbrev pub Holds : Option Files → List ℕ → List ℕ → Type 0
 Holds = AnswersWrite
 
--- the name holds a file, where files are told, and its first fault is this one, or it has none
+-- the name holds a file, if the contents of files are known, and its first fault is this one, or it has none
 pub record HasFault (first_of : List ℕ → Option Fault) (files : Option Files) (name : List ℕ) (fault : Option Fault)
     : Type 0 where
   pub file : List ℕ

@@ -13,7 +13,7 @@ status_of (Some (Fault address memory)) = Faulted
 status_of (Some (NoReply number memory)) = Unanswered
 status_of (Some (WrongReply line address memory)) = BadReply
 
--- the exit status that tells a status
+-- the exit status of a status
 abbrev pub status_number : Status → ℕ
 status_number Done = 0
 status_number Refused = 1

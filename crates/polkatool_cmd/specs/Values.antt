@@ -1,4 +1,4 @@
--- What a word stands for: the name of a file, a number, or bytes.
+-- The value of an argument: a file name, a number, or bytes.
 use Rattle.std.specs.Prelude.{◌≡◌, ℕ, ◌+◌, ◌-◌, ◌*◌, List, [], ◌∷◌, Bool, false, ◌&&◌, not, ◌==◌, nat_lt, if◌then◌else◌, Option, Some, None}
 use Rattle.std.specs.Option.{unwrap_or}
 use Rattle.std.specs.Result.{result_ok}
@@ -20,7 +20,7 @@ begins_with_dash (b ∷ bs) = b == 45
 abbrev pub is_file : List ℕ → Bool
 is_file word = is_name word && not (begins_with_dash word)
 
--- the number that decimal digits spell behind a number, where all bytes are digits
+-- the number spelled by the digits of a number and these bytes after them, if all are digits
 unfoldable pub digits_behind : ℕ → List ℕ → Option ℕ
 digits_behind n [] = Some n
 digits_behind n (b ∷ bs) = if is_ascii_digit b then digits_behind (10 * n + (b - 48)) bs else None

@@ -5,22 +5,22 @@ use elf_objects::Fault;
 pub(crate) enum Answer {
     /// The work is done.
     Done,
-    /// The program panicked, and its run was told.
+    /// The program panicked, and its transcript was written.
     Panicked,
-    /// The program met a page fault, and its run was told.
+    /// The program met a page fault, and its transcript was written.
     Faulted,
-    /// The program used up its gas, and its run was told.
+    /// The program used up its gas, and its transcript was written.
     OutOfGas,
-    /// The program made a host call for which no reply was left, and its run was told.
+    /// The program made a host call for which no reply was left, and its transcript was written.
     Unanswered,
-    /// A reply was to be written where the program can't write, and the run was told.
+    /// A reply was to be written where the program can't write, and the transcript was written.
     BadReply,
     /// A file has this fault.
     Refused(Fault),
-    /// The words are a faulty command line.
+    /// The arguments are a usage error.
     Usage,
     /// A call outside failed, or a file is missing.
     FileFault,
-    /// Memory was refused.
+    /// An allocation failed.
     Memory,
 }

@@ -7,7 +7,7 @@ ghost use Rattle.polkatool_cmd.specs.Values.{argument_of, IsSpelled};
 use hex::FromHexError;
 use std::alloc::{AllocError, Global};
 
-/// The argument of a run, as the hexadecimal digits that spell its bytes. It lends the word of the digits.
+/// The argument of a run, as the hexadecimal digits that spell its bytes. It borrows the argument that has the digits.
 #[derive(Clone, Copy)]
 pub(crate) struct Argument<'a> {
     digits: &'a [u8],

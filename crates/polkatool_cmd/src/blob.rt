@@ -18,7 +18,7 @@ const BLOB_LIMIT: u32 = 1 << 27;
 /// The bytes of a blob's file.
 ///
 /// # Errors
-/// The answer of the command: a file fault, a refusal of too many bytes, or want of memory.
+/// The answer of the command: a file fault, a refusal of too many bytes, or out of memory.
 pub(crate) fn read_blob<F: Folder>(
     alloc: Global,
     name: &str,

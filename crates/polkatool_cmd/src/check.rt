@@ -16,7 +16,7 @@ use elf_objects::Fault;
 use outside::{Folder, Sink};
 use std::alloc::Global;
 
-/// What is put where a program has no fault.
+/// What is written if a program has no fault.
 const OK: &[u8; 3] = b"ok\n";
 
 /// Checks the program of one file, and puts that it has no fault.
@@ -68,7 +68,7 @@ fn tell_check<O: Sink>(container: &Container<'_>, out: &mut O) -> Answer
     }
 }
 
-/// How the fault of a program is told.
+/// How the fault of a program is reported.
 fn check_fault(fault: CheckFault) -> Fault
     ensures { result ≡ check_fault fault }
 {

@@ -10,7 +10,7 @@ use crate::commands::ExecCommand;
 use crate::link_objects::{link_bundle, read_objects};
 use crate::run::{bad_reply_line, finish, read_replies, start};
 use crate::run_fault::RunFault;
-use link_core::{LinkFault, replies_agree};
+use link_core::LinkFault;
 use outside::{Folder, Sink};
 use std::alloc::Global;
 use transcript::{Replies, ReplyFault};
@@ -39,7 +39,6 @@ pub(crate) fn exec<F: Folder, O: Sink>(
         }) }
     ensures files { F.files files.new ≡ F.files files.old }
 {
-    replies_agree();
     let bundle = match read_objects(alloc, &command.input, files) {
         Ok(bundle) => bundle,
         Err(answer) => return answer,
@@ -59,7 +58,7 @@ pub(crate) fn exec<F: Folder, O: Sink>(
         Err(LinkFault::Memory) => return Answer::Memory,
     };
     match start(alloc, linked.container(), &command.settings) {
-        Ok(mut machine) => finish(&mut machine, &replies, out),
+        Ok(mut machine) => finish(alloc, &mut machine, &replies, out),
         Err(RunFault::Bad(fault)) => Answer::Refused(fault),
         Err(RunFault::Memory) => Answer::Memory,
     }

@@ -5,8 +5,8 @@ ghost use Rattle.polkatool_cmd.specs.FaultNames.{fault_name, name_among, object_
 
 use crate::fault_codes::*;
 use elf_objects::{
-    BAD_NAME, BAD_RELOCATION, BAD_SYMBOL, BAD_TABLE, NOT_BUILT, NOT_ELF, UNSUPPORTED_SECTION,
-    WRONG_FLAGS, WRONG_KIND,
+    BAD_NAME, BAD_RELOCATION, BAD_SYMBOL, BAD_TABLE, NOT_ELF, UNSUPPORTED_SECTION, WRONG_FLAGS,
+    WRONG_KIND,
 };
 use layout::{CODE_TOO_LARGE, READ_ONLY_TOO_LARGE, WRITABLE_TOO_LARGE, ZERO_TOO_LARGE};
 use link_core::CODE_BYTES_TOO_LARGE;
@@ -80,7 +80,7 @@ fn code_fault_name(code: u8) -> &'static str
     }
 }
 
-/// The name of a fault of a container, of a run, of a program or of a file, and of what isn't supported yet.
+/// The name of a fault of a container, of a run, of a program or of a file.
 fn blob_fault_name(code: u8) -> &'static str
     ensures name { result.now ≡ name_among blob_names code }
     ensures short { length result.now ≤ 19 }
@@ -100,7 +100,6 @@ fn blob_fault_name(code: u8) -> &'static str
         OPEN_END => "OpenEnd",
         BAD_REPLY_LINE => "BadReplyLine",
         FILE_TOO_LARGE => "FileTooLarge",
-        NOT_BUILT => "NotBuilt",
         _ => "",
     }
 }

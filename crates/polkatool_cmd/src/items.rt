@@ -18,7 +18,7 @@ pub(crate) enum Item<'a> {
     File(&'a [u8]),
 }
 
-/// The first item of words, and the words behind it.
+/// The first item of arguments, and the arguments after it.
 pub(crate) fn first_item(words: &[Bytes]) -> Option<(Item<'_>, &[Bytes])>
     ensures cut { MatchOption result
         (items words.now ≡ [])

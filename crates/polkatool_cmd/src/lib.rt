@@ -1,10 +1,10 @@
-//! The top call: a list of words, a folder and two sinks give a status.
+//! The top call: a list of arguments, a folder and two sinks give a status.
 //!
-//! `specs/Commands.antt` says which words are a command, `specs/LinkWords.antt` which are a link, `specs/RunWords.antt`
-//! which are a run and `specs/ExecWords.antt` which are an exec, `specs/Faults.antt` which files are too large, `specs/BlobFaults.antt` why what a file holds is no
-//! container, `specs/RunFaults.antt` and `specs/CheckFaults.antt` why a container isn't run or is no checked one, and
-//! `specs/Answers.antt` and `specs/LinkAnswers.antt` what a command comes to and how that is told. Why objects aren't
-//! linked says `link_core`.
+//! `specs/Commands.antt` says which arguments are a command, `specs/LinkWords.antt` which are a link, `specs/RunWords.antt`
+//! which are a run and `specs/ExecWords.antt` which are an exec, `specs/Faults.antt` which files are too large,
+//! `specs/BlobFaults.antt` why what a file holds is no container, `specs/RunFaults.antt` and `specs/CheckFaults.antt` why a container isn't run or is no checked one, and
+//! `specs/Answers.antt` and `specs/LinkAnswers.antt` the result of each command and how it is reported. `link_core` says
+//! why objects aren't linked.
 #![tactic(auto)]
 
 ghost use Rattle.polkatool_cmd.specs.Commands.{command_of};
@@ -22,6 +22,7 @@ mod exec_words;
 mod fault_codes;
 mod fault_names;
 mod items;
+mod laws;
 mod link_input;
 mod link_objects;
 mod link_words;
@@ -34,6 +35,7 @@ mod values;
 mod words;
 
 use command::answer_to;
+pub use laws::commands_complete;
 use outside::{Folder, Sink};
 pub use report::out_of_memory;
 use report::report;
@@ -41,18 +43,19 @@ pub use status::Status;
 use std::alloc::Global;
 pub use words::Words;
 
-/// Does what the words ask for, in the folder and on out, and tells on err what went wrong.
+/// Carries out the command of the arguments, with the folder and standard output `out`, and reports on standard error
+/// `err` what went wrong.
 ///
-/// The words are `link` and, in any order, `-o OUT`, `-e NAME` and `-i NAME=NUMBER` or `-i NAME=sbrk` any number of times,
+/// The arguments are `link` and, in any order, `-o OUT`, `-e NAME` and `-i NAME=NUMBER` or `-i NAME=sbrk` any number of times,
 /// `--stack N`, and OBJ once or more: the objects in the files OBJ are linked into the file OUT with the entries of these
-/// names, `main` without any, and the map is put on out. Or they are `run` and, in any order, BLOB, `--entry I`, `--gas N`,
-/// `--arg HEX` and `--replies FILE`: the container in the file BLOB is run from entry I, by default 0, with gas N, by default
-/// 10,000,000, with the bytes that the digits HEX spell as its argument, by default none, and with the lines of FILE as
-/// replies to its host calls, by default none; the transcript of the run is put on out while it runs.
+/// names, `main` without any, and the map is written to `out`. Or they are `run` and, in any order, BLOB, `--entry I`,
+/// `--gas N`, `--arg HEX` and `--replies FILE`: the container in the file BLOB is run from entry I, by default 0, with gas
+/// N, by default 10,000,000, with the bytes that the digits HEX spell as its argument, by default none, and with the lines
+/// of FILE as replies to its host calls, by default none; the transcript of the run is written to `out` while it runs.
 /// Or they are `exec` with the options of `link` but `-o`, those of `run`, and OBJ once or more: the objects are linked, and
-/// the linked program is run as by `run`. Or they are `check BLOB`: where the container's program has no fault, `ok` and a line feed are put on out. Or
-/// `disassemble BLOB`: the text of the program is put on out, whatever a check would say. All other words are a faulty
-/// command line, for which no memory is taken.
+/// the linked program is run as by `run`. Or they are `check BLOB`: if the container's program has no fault, `ok` and a line
+/// feed are written to `out`. Or `disassemble BLOB`: the text of the program is written to `out`, whatever a check would say. All other
+/// arguments are a usage error, for which no memory is taken.
 pub fn polkatool<F: Folder, O: Sink, E: Sink>(
     alloc: Global,
     words: &Words,

@@ -129,7 +129,7 @@ pub(crate) fn link_bundle(
 /// Reads files in order, each of at most 2^24 bytes and within what is left of 2^26.
 ///
 /// # Errors
-/// The answer of the command: a file fault, a refusal of too many bytes, or want of memory.
+/// The answer of the command: a file fault, a refusal of too many bytes, or out of memory.
 fn read_files<F: Folder>(alloc: Global, names: &[&str], files: &mut F) -> Result<Bundle, Answer>
     requires { length names.now ≤ 1024 }
     ensures read { MatchResult result
@@ -154,7 +154,7 @@ fn read_files<F: Folder>(alloc: Global, names: &[&str], files: &mut F) -> Result
     Ok(bundle)
 }
 
-/// Reads the file with a number in the order of reading, where so many bytes are left for it.
+/// Reads the file with a number in the order of reading, of at most the bytes that are left.
 pub(crate) fn read_file<F: Folder>(
     alloc: Global,
     name: &str,

@@ -4,7 +4,7 @@ ghost use Rattle.std.specs.Prelude.{◌≡◌, ◌^◌, ◌<◌, IfSome, IsTrue,
 ghost use Rattle.std.specs.Prelude.{option_map, option_copied, slice_get};
 ghost use Rattle.std.specs.List.{before_last, after_last, list_all};
 ghost use Rattle.symbols.specs.Wanted.{IsHostNumber};
-ghost use Rattle.polkatool_cmd.specs.LinkWords.{host_call, wanted_name, kind_in_value, import_in_value, is_equals_sign};
+ghost use Rattle.polkatool_cmd.specs.LinkWords.{wanted_name, kind_in_value, import_in_value, is_equals_sign};
 ghost use Rattle.polkatool_cmd.specs.LinkWords.{output_in, entry_in, import_in, stack_in, is_of_link, is_of_objects};
 ghost use Rattle.polkatool_cmd.specs.LinkWords.{outputs, entries, imports, stacks, objects, is_imported, repeats_import, name_objects, is_link, input_with, stack_of};
 ghost use Rattle.polkatool_cmd.specs.LinkWords.{link_command_of};
@@ -47,7 +47,7 @@ pub(crate) struct Counts {
     pub objects: usize,
 }
 
-/// The link that the words behind the verb ask for. None where they are faulty. It takes no memory.
+/// The link that the arguments after the verb ask for. None for a usage error. It takes no memory.
 pub(crate) fn link_command(words: &[Bytes]) -> Option<LinkCommand<'_>>
     ensures { option_map link_in result ≡ link_command_of words.now }
 {
@@ -263,7 +263,7 @@ fn import_in_value(value: &[u8]) -> Option<Import<'_>>
     })
 }
 
-/// What stands before the last '=' of a value, and what stands behind it. Where it has none, all stands behind.
+/// The part of a value before its last '=', and the part after it. Without one, all is after it.
 fn split_at_last_equals_sign(value: &[u8]) -> (&[u8], &[u8])
     ensures before { result.0.now ≡ before_last is_equals_sign value.now }
     ensures behind { result.1.now ≡ after_last is_equals_sign value.now }
@@ -293,17 +293,5 @@ fn kind_in_value(word: &[u8]) -> Option<ImportKind>
     if word == b"sbrk".as_slice() {
         return Some(ImportKind::Sbrk);
     }
-    host_call(number_below(word, 1 << 31)?)
-}
-
-/// The host call of a number, which is none of those on inner machines: these are not supported yet.
-fn host_call(number: u32) -> Option<ImportKind>
-    requires { number < 2 ^ 31 }
-    ensures kind { result ≡ host_call number }
-    ensures number { IfSome result IsHostNumber }
-{
-    if number >= 8 && number <= 13 {
-        return None;
-    }
-    Some(ImportKind::Host(number))
+    Some(ImportKind::Host(number_below(word, 1 << 31)?))
 }

@@ -1,4 +1,4 @@
-//! How an answer is told: by its status and a line on err.
+//! How an answer is reported: by its status and a line on standard error.
 
 ghost use Rattle.std.specs.Prelude.{◌≡◌, ◌+◌, ◌≤◌, ◌++◌, length};
 ghost use Rattle.arrayvec.specs.ArrayString.{array_string_len};
@@ -26,7 +26,8 @@ const LINE_LEN: usize = 256;
 /// Room for the digits of a number.
 const NUMBER_LEN: usize = 40;
 
-/// Puts on err that memory was refused: for a caller that has no memory for the words. It takes no memory.
+/// Reports on standard error that an allocation failed, for a caller that has no memory for the arguments. It takes no
+/// memory.
 pub fn out_of_memory<E: Sink>(err: &mut E) -> Status
     ensures { Reports Answer.Memory result
         (record { text = E.bytes err.old; puts = E.faults err.old })

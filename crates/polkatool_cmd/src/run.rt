@@ -4,7 +4,7 @@ ghost use Rattle.std.specs.Prelude.{◌≡◌, ◌≤◌, ◌^◌, Some, length,
 ghost use Rattle.machine_state.specs.State.{State};
 ghost use Rattle.pvm_machine.specs.Ran.{run_with};
 ghost use Rattle.transcript.specs.Ends.{end_of};
-ghost use Rattle.transcript.specs.Hosts.{replying, start_host};
+ghost use Rattle.transcript.specs.Hosts.{answering, start_host};
 ghost use Rattle.polkatool_cmd.specs.Commands.{Run};
 ghost use Rattle.polkatool_cmd.specs.RunRead.{run_in, settings_in};
 ghost use Rattle.polkatool_cmd.specs.RunFaults.{bad_reply_line as bad_reply_line_of};
@@ -17,7 +17,7 @@ use crate::blob::{blob_fault, blob_fault_at, read_blob};
 use crate::commands::{RunCommand, Settings};
 use crate::fault_codes::{ARGUMENT_TOO_LARGE, BAD_ENTRY, BAD_REPLY_LINE};
 use crate::link_objects::read_file;
-use crate::run_fault::{RunFault, unbuilt_form};
+use crate::run_fault::RunFault;
 use blob_codec::Container;
 use elf_objects::Fault;
 use outside::{Bytes, Folder, Sink};
@@ -66,7 +66,7 @@ pub(crate) fn run<F: Folder, O: Sink>(
         Err(ReplyFault::Memory) => return Answer::Memory,
     };
     match start(alloc, file.as_slice(), &command.settings) {
-        Ok(mut machine) => finish(&mut machine, &replies, out),
+        Ok(mut machine) => finish(alloc, &mut machine, &replies, out),
         Err(RunFault::Bad(fault)) => Answer::Refused(fault),
         Err(RunFault::Memory) => Answer::Memory,
     }
@@ -75,7 +75,7 @@ pub(crate) fn run<F: Folder, O: Sink>(
 /// The bytes of the file of replies, with its number in the order of reading. Without one there are none.
 ///
 /// # Errors
-/// The answer of the command: a file fault, a refusal of too many bytes, or want of memory.
+/// The answer of the command: a file fault, a refusal of too many bytes, or out of memory.
 pub(crate) fn read_replies<F: Folder>(
     alloc: Global,
     name: Option<&str>,
@@ -111,9 +111,6 @@ pub(crate) fn start<'a>(
     ensures { MatchResult result (Starts file.now (settings_in settings.now)) (FailsToStart file.now (settings_in settings.now)) }
 {
     let container = Container::read(file)?;
-    if let Some(fault) = unbuilt_form(&container) {
-        return Err(RunFault::Bad(fault));
-    }
     let argument = settings.argument.bytes(alloc)?;
     match Machine::start(
         alloc,
@@ -129,13 +126,18 @@ pub(crate) fn start<'a>(
     }
 }
 
-/// Runs a machine to its end, with replies to its calls, and puts the transcript.
-pub(crate) fn finish<O: Sink>(machine: &mut Machine<'_>, replies: &Replies, out: &mut O) -> Answer
-    ensures { Tells (run_with replying (start_host replies.now) machine.old) machine.new result
+/// Runs a machine to its end, with its inner machines and with replies to its other calls, and puts the transcript.
+pub(crate) fn finish<O: Sink>(
+    alloc: Global,
+    machine: &mut Machine<'_>,
+    replies: &Replies,
+    out: &mut O,
+) -> Answer
+    ensures { Tells (run_with answering (start_host replies.now) machine.old) machine.new result
         (record { text = O.bytes out.old; puts = O.faults out.old })
         (record { text = O.bytes out.new; puts = O.faults out.new }) }
 {
-    match tell(machine, replies, out) {
+    match tell(alloc, machine, replies, out) {
         Ok(end) => answer_of(end),
         Err(TellFault::Failed) => Answer::FileFault,
         Err(TellFault::Memory) => Answer::Memory,

@@ -8,7 +8,7 @@ pub enum Status {
     Done,
     /// The file that was read has a fault. The line on err says which, and where.
     Refused,
-    /// The words are a faulty command line.
+    /// The arguments are a usage error.
     Usage,
     /// A call outside failed, or a file is missing.
     FileFault,
@@ -22,7 +22,7 @@ pub enum Status {
     Unanswered,
     /// A reply was to be written where the program can't write.
     BadReply,
-    /// Memory was refused.
+    /// An allocation failed.
     Memory,
 }
 

@@ -37,7 +37,7 @@ impl Words {
         }
     }
 
-    /// Adds a word at the end. Where memory is refused, the words stay as they were.
+    /// Adds an argument at the end. If an allocation fails, the list is as before.
     pub fn push(&mut self, word: &[u8]) -> Result<(), AllocError>
         ensures ok { OnOk result (self.new ≡ self.old ++ word.now ∷ []) }
         ensures err { OnErr result (self.new ≡ self.old) }
@@ -55,7 +55,7 @@ impl Words {
     }
 }
 
-/// The command that the words are. None where they are a faulty command line. It takes no memory.
+/// The command of the arguments. None for a usage error. It takes no memory.
 pub(crate) fn command_of(words: &Words) -> Option<Command<'_>>
     ensures { option_map command_in result ≡ command_of words.now }
 {
@@ -75,7 +75,7 @@ pub(crate) fn command_of(words: &Words) -> Option<Command<'_>>
     }
 }
 
-/// The blob that the one word behind the verb names.
+/// The blob that the one argument after the verb names.
 fn blob_of(words: &[Bytes]) -> Option<&str>
     ensures { option_copied result ≡ blob_of words.now }
 {

@@ -9,7 +9,7 @@ fn the_first_fault_in_order_is_told(rt: HostRuntime) -> Result<(), Fail> {
     first_of_each();
     first_found();
     none_at_each();
-    // A table with the entries 1 and 9, and fallthrough with what stands behind it at position 1: an unknown opcode, of
+    // A table with the entries 1 and 9, and fallthrough with what comes after it at position 1: an unknown opcode, of
     // an earlier phase than entry 1; load_imm, which leaves the end open; trap, so that the entry alone is at fault.
     for (opcode, want) in [
         (0xff, CheckFault::UnknownOpcode(1)),

@@ -11,6 +11,8 @@
 #[cfg(test)]
 mod code_tests;
 #[cfg(test)]
+mod constant_tests;
+#[cfg(test)]
 mod container_tests;
 #[cfg(test)]
 mod fault_tests;

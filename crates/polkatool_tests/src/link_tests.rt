@@ -92,7 +92,7 @@ impl Phases<'_> {
         )
     }
 
-    /// Asserts what the sources tell of some offsets of the code.
+    /// Asserts what the sources return for some offsets of the code.
     fn see_sources(&self, rt: &impl Abort, tables: &Tables)
         ghost given: { Given }
         requires given { given ≡ self.now }
@@ -214,7 +214,7 @@ fn see_blocks(rt: &impl Abort, blocks: &Blocks) {
         (1, 1, Some(2)),
         (2, 1, Some(0)),
         (3, 1, Some(3)),
-        (4, 9, None),
+        (4, 7, None),
     ] {
         see_block(rt, blocks, at, instructions, target);
     }

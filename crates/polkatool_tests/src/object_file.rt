@@ -132,7 +132,7 @@ fn object_of(alloc: Global, parts: &Parts<'_>) -> Result<Vec<u8>, AllocError> {
     Ok(out)
 }
 
-/// The headers of the sections, whose contents stand behind them in their order.
+/// The headers of the sections, whose contents come after them in their order.
 fn put_sections(parts: &Parts<'_>, out: &mut Vec<u8>) -> Result<(), AllocError> {
     let code = size_of(parts.words.len(), 4);
     let code_relocations = size_of(parts.code_relocations.len(), 24);
@@ -158,7 +158,7 @@ fn put_sections(parts: &Parts<'_>, out: &mut Vec<u8>) -> Result<(), AllocError> 
     Ok(())
 }
 
-/// How many symbols are local, with the one of number 0. They stand before the others.
+/// The number of local symbols, with the one of number 0. They come before the others.
 fn local_symbols(parts: &Parts<'_>) -> u32 {
     let mut count = 1u32;
     for (info, _, _) in parts.symbols {

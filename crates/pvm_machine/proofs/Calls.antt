@@ -27,7 +27,7 @@ no_x : (rs : List Range) → AllByRecursion (λ r. Other r.form) rs → (op : �
 no_x [] h op e = cc
 no_x (r ∷ rs) h op e = no_x rs h.1 op (other (is_in r op) r.form (form_in rs op) h.0 e)
 
--- the ranges of the table behind that of the form X
+-- the ranges of the table after that of the form X
 abbrev behind_x : List Range
 behind_x = drop 2 table
 
@@ -70,7 +70,7 @@ op_in : Option (Fetched Standing ℕ) → ℕ
 op_in None = 0
 op_in (Some f) = f.instr.instr.op
 
--- an instruction that stands and calls the host is marked and has the one opcode of that
+-- an instruction that calls the host is marked and has the one opcode of that
 pub has_call : (code : Listing) (at : ℕ) (f : Fetched Standing ℕ) → instr_at code at ≡ Some f → operation_of f.instr.instr.op ≡ Ecalli → HasCall code
 unfolding instr_at op_in fetch_of
 has_call code at f e call = by_test (stands code at) refl e

@@ -8,21 +8,22 @@ use Rattle.machine_state.specs.Start.{pages_of}
 use Rattle.machine_state.specs.Heap.{with_heap, may_end_at, with_top, sbrk}
 use Rattle.machine_state.proofs.Heap.{sbrk_none, sbrk_grows, sbrk_stays, sbrk_bounds, may_end}
 use Rattle.machine_state.specs.Hosts.{Bounds}
-use Rattle.pvm_machine.specs.Machine.{Machine}
-use Rattle.pvm_machine.specs.Stepped.{Keeps}
-use Rattle.pvm_machine.specs.declared.machine.Machine.TheInside.{Inside}
+use Rattle.pvm_machine.specs.Machine.{Core, Machine, machine_on}
+use Rattle.pvm_ops.specs.Listing.{Listing}
+use Rattle.std.specs.Prelude.{List}
+use Rattle.pvm_machine.specs.declared.cores.Core.TheInside.{Inside}
 
--- the state of a machine by its fields, and the machine
+-- the state of a core by its fields, and the core
 abbrev pub state_in : Inside → State
-state_in m = record { registers = m.registers; memory = m.memory; heap_top = m.heap_top; heap_bound = m.heap_bound; frame_limit = m.frame_limit }
+state_in c = record { registers = c.registers; memory = c.memory; heap_top = c.heap_top; heap_bound = c.heap_bound; frame_limit = c.frame_limit }
 
-abbrev pub machine_in : Inside → Machine
-machine_in m = record { table = m.program.table; code = m.code; counter = m.counter; state = state_in m; gas = m.gas }
+abbrev pub core_in : Inside → Core
+core_in c = record { counter = c.counter; state = state_in c; gas = c.gas }
 
-abbrev pub with_state : Machine → State → Machine
-with_state m s = record m { state = s }
+abbrev pub with_state : Core → State → Core
+with_state c s = record c { state = s }
 
-module _ (m : Machine) (at size : ℕ) where
+module _ (m : Core) (at size : ℕ) where
   pub grows_none : size ≡ 0 → with_state m (sbrk m.state at size) ≡ with_state m (with_register m.state at m.state.heap_top)
   grows_none none = ap (with_state m) (sbrk_none m.state at size none)
 
@@ -47,18 +48,11 @@ few_enough n limit few = by_test (nat_le n limit) refl
 pub may_reach : (s : State) (top : ℕ) → top ≤ s.heap_bound → (s.frame_limit < map.len (with_heap s top) → ⊥) → may_end_at s top ≡ true
 may_reach s top within few = may_end s top within (few_enough (map.len (with_heap s top)) s.frame_limit few)
 
--- a machine whose heap grew, and where a register took a value
-module _ (m n : Machine) (at size value : ℕ) (grown : with_state m (sbrk m.state at size) ≡ with_state n (with_register n.state at value)) where
-  pub grown_keeps : Keeps m n
-  grown_keeps = record {
-    table = sym (ap (λ (x : Machine). x.table) grown);
-    code = sym (ap (λ (x : Machine). x.code) grown);
-    heap_bound = sym (ap (λ (x : Machine). x.state.heap_bound) grown) ∙ ap (λ (b : Bounds). b.heap_bound) (sbrk_bounds m.state at size);
-    frame_limit = sym (ap (λ (x : Machine). x.state.frame_limit) grown) ∙ ap (λ (b : Bounds). b.frame_limit) (sbrk_bounds m.state at size);
-  }
-
+-- a core whose heap grew, and where a register took a value
+module _ (m n : Core) (at size value : ℕ) (grown : with_state m (sbrk m.state at size) ≡ with_state n (with_register n.state at value)) where
   pub grown_costs : n.gas ≡ m.gas
-  grown_costs = sym (ap (λ (x : Machine). x.gas) grown)
+  grown_costs = sym (ap (λ (x : Core). x.gas) grown)
 
-  pub grown_goes : (next : ℕ) → record n { counter = next; state = with_register n.state at value } ≡ record m { counter = next; state = sbrk m.state at size }
-  grown_goes next = ap (λ (x : Machine). record x { counter = next }) (sym grown)
+  -- so do the machines that run a program on them
+  pub grown_goes : (table : List ℕ) (code : Listing) (next : ℕ) → machine_on table code (record n { counter = next; state = with_register n.state at value }) ≡ machine_on table code (record m { counter = next; state = sbrk m.state at size })
+  grown_goes table code next = ap (λ (x : Core). machine_on table code (record x { counter = next })) (sym grown)

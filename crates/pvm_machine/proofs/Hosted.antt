@@ -29,7 +29,7 @@ use Rattle.pvm_machine.specs.declared.operation.Operation.{Operation}
 use Rattle.pvm_machine.specs.Operations.{operation_of}
 use Rattle.pvm_machine.proofs.Done.{IsDone, is_done}
 
--- what a last step has paid before the machine stands behind it: a call, its instruction
+-- what a last step has paid before the machine is after it: a call, its instruction
 abbrev cost : Step → ℕ
 cost answer.Next = 0
 cost answer.Halt = 0
@@ -136,7 +136,7 @@ module _ {Held : Type 0} (host : Host Held) (held : Held) where
         let less : (all_steps n).machine.gas + cost (all_steps n).answer ≤ m.gas = omega (arith, later.less) in
         rw on (record { run = one_more m n (all_steps n).machine (all_steps n).answer refl refl whole (omega arith) later.less later.run; less = less })
 
-    -- what was told of a run that ends now without a host call
+    -- the run that ends now without a host call
     abbrev ends_so : End → Paid Event End
     ends_so end = record { events = []; end = Some end; left = k; begun = m.gas - k }
 
@@ -173,7 +173,7 @@ module _ {Held : Type 0} (host : Host Held) (held : Held) where
     comes next o (Ends (Unanswered number memory)) done turn is = absurd done
     comes next o (Ends (BadReply line address memory)) done turn is = absurd done
 
-    -- what stands at the counter is done
+    -- the instruction at the counter is executed
     fetches : (o : Option (Fetched Standing ℕ)) → instr_at m.code m.counter ≡ o → Runs m (all_steps m)
     fetches None none = ends (record m { gas = k }) exit.Panic refl (begins m k gas ∙ rw none refl) (stops _ (rw none refl))
     fetches (Some f) some = comes f.next (operation_of f.instr.instr.op) _ (is_done m.table m.code f.instr m.state) (rw some refl) (begins m k gas ∙ rw some refl)
@@ -218,7 +218,7 @@ module _ {Held : Type 0} (host : Host Held) (held : Held) where
       let IsRunTo : Stepped → Type 0 = λ r. IsRunWith host held m r.machine r.answer in
       subst IsRunTo (sym is) (runs_of m.gas m refl).run
 
-  -- what the steps of a machine come to is its run under gas, up to the first call
+  -- the result of the steps of a machine is its run under gas, up to the first call
   pub ran_with : (m next : Machine) (e : Exit) → AreSteps m next (last_answer e) → IsRunWith host held m next (last_answer e)
   ran_with m next exit.Halt is = by_steps m next exit.Halt is
   ran_with m next exit.Panic is = by_steps m next exit.Panic is
@@ -233,7 +233,7 @@ module _ {Held : Type 0} (host : Host Held) (held : Held) where
       let Paid : Stepped → Type 0 = λ r. r.machine.gas + cost r.answer ≤ m.gas in
       subst Paid (sym is) (runs_of m.gas m refl).less
 
--- what the steps of a machine come to where no host answers
+-- the result of the steps of a machine without a host
 pub ran : (m next : Machine) (e : Exit) → AreSteps m next (last_answer e) → IsRun m next (last_answer e)
 ran m next exit.Halt is = ran_with no_host tt m next exit.Halt is
 ran m next exit.Panic is = ran_with no_host tt m next exit.Panic is
@@ -246,8 +246,8 @@ ran m next (exit.Host number) is =
     ∙ ap (λ (n : ℕ). record { events = event number next.state ∷ []; end = Some (Unanswered number next.state.memory); left = next.gas; begun = n }) count
 ran m next exit.Memory is = ran_with no_host tt m next exit.Memory is
 
--- The invariant of a loop that repeats steps and answers each call: the run from s0 is what was told and begun so far, and
--- then the run of the machine from here, with what the host holds now.
+-- The invariant of a loop that repeats steps and answers each call: the run from s0 is the events and instructions up to
+-- now, and then the run of the machine from here, with what the host holds now.
 module _ {Held : Type 0} (host : Host Held) (gas0 : ℕ) (s0 : At ℕ (World State Held)) (m : Machine) (held : Held) (events : List Event) (begun : ℕ)
     (came : CameTo (machine_step host m.table m.code) gas0 s0 events begun m.gas (standing m held)) (next : Machine) where
   -- the whole run, and what it is up to a call
@@ -277,7 +277,7 @@ module _ {Held : Type 0} (host : Host Held) (gas0 : ℕ) (s0 : At ℕ (World Sta
         came ∙ ap (paid events begun) call ∙ paid_paid events [] begun (m.gas - (next.gas + 1)) _
         ∙ ap (λ l. paid l so_far (pay (pay_run (machine_step host m.table m.code)) next.gas (placed next.counter (called told asked)))) (append-nil events)
 
-    -- the call is answered, within the gas: the loop goes on from where the step stands, in the world of the answer
+    -- the call is answered, within the gas: the loop goes on from the machine after the step, in the world of the answer
     pub answered_on : (spent rest : ℕ) (w : World State Held) → asked ≡ Answered spent rest w → spent + rest ≤ next.gas
         → CameTo (machine_step host m.table m.code) gas0 s0 (events ++ told ∷ []) (so_far + (1 + spent)) (next.gas - spent) (record { at = next.counter; of = w })
     answered_on spent rest w e le =

@@ -13,7 +13,7 @@ use Rattle.page_memory.specs.Access.{copy_in, stored}
 use Rattle.page_memory.specs.Mapping.{HasPages, ChangesPages, with_mode}
 use Rattle.page_memory.specs.Laws.{PagesAllow, PagesFill, PagesProtect}
 
--- the page at a number behind one more page
+-- the page at a number after one more page
 get_more : (memory : Memory) (first : ℕ) (page : Page) (number : ℕ) → map.get (map.insert memory first page) number ≡ cond (nat_eq number first) (Some page) (map.get memory number)
 get_more memory first page number =
     map.get-insert nat_cmp_total memory first page number

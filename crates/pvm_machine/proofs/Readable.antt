@@ -71,7 +71,7 @@ module _ (registers : List ℕ) (memory : Memory) (o : Option ℕ) (some : 0 < s
   some_barred None free e = cc
   some_barred (Some at) free e = one_barred (slice_index registers 8) (slice_index registers 7) at memory end free.0 free.1 free.2
 
-  -- what is told of barred addresses is where the output stands
+  -- what is reported of barred addresses says where the output is
   pub output_free : is_some o ≡ false → output_range registers memory ≡ Some (slice_index registers 7, slice_index registers 8)
   output_free e = readable_by true (none_barred o least e)
 

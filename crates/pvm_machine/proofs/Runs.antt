@@ -107,4 +107,9 @@ keeps_on first second third h h' = record {
   code = h'.code ∙ h.code;
   heap_bound = h'.heap_bound ∙ h.heap_bound;
   frame_limit = h'.frame_limit ∙ h.frame_limit;
+  heap_top = omega (arith, h.heap_top, h'.heap_top);
+  gas = omega (arith, h.gas, h'.gas);
+  within = λ few. h'.within (h.within few);
+  frames = λ none. h'.frames (h.heap_bound ∙ none) ∙ h.frames none;
+  heap_end = λ none. h'.heap_end (h.heap_bound ∙ none) ∙ h.heap_end none;
 }

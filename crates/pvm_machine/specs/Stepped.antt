@@ -1,5 +1,6 @@
 -- What steps under gas leave and answer (JAM Gray Paper 0.7.0, appendix A).
-use Rattle.std.specs.Prelude.{◌≡◌, ℕ, zero, suc, ◌+◌, ◌-◌, ◌<◌, ◌==◌, true, if◌then◌else◌, Option, Some, None, slice_index}
+use Rattle.std.specs.Prelude.{◌≡◌, ℕ, zero, suc, ◌+◌, ◌-◌, ◌<◌, ◌≤◌, ◌==◌, true, if◌then◌else◌, Option, Some, None, slice_index}
+use Rattle.std.specs.FinMap as map
 use Rattle.runs.specs.Machine.{Outcome, Next, Jump, Call, Ends}
 use Rattle.runs.specs.Laid.{Fetched}
 use Rattle.machine_state.specs.State.{State}
@@ -33,19 +34,19 @@ ended m (Fault address memory) = stayed m (answer.Fault address)
 ended m (Unanswered number memory) = stayed m answer.Panic
 ended m (BadReply line address memory) = stayed m answer.Panic
 
--- an instruction came out so, and `next` is the position behind it: there the machine stands for a host call too
+-- an instruction came out so, and `next` is the position after it: there the machine is for a host call too
 abbrev pub came_out : Machine → ℕ → Outcome ℕ State End → Stepped
 came_out m next (Next s) = gone m next s answer.Next
 came_out m next (Jump target s) = gone m target s answer.Next
 came_out m next (Call number s) = gone m next s (answer.Host number)
 came_out m next (Ends end) = ended m end
 
--- the instruction that stands at the counter is done, and where none stands the machine panics as at a trap
+-- the instruction at the counter is executed, and where none is, the machine panics as at a trap
 abbrev pub begun : Machine → Option (Fetched Standing ℕ) → Stepped
 begun m None = stayed m answer.Panic
 begun m (Some f) = came_out m f.next (does_at m.table m.code f.instr m.state)
 
--- An instruction is begun only with gas above 0, and costs one, whatever it comes to; with none left nothing changes.
+-- An instruction is begun only with gas above 0, and costs one, whatever its result; with none left nothing changes.
 -- How the host would answer does not matter: the step ends where the host is called.
 unfoldable pub stepped : Machine → Stepped
 stepped m = if m.gas == 0 then stayed m answer.OutOfGas else begun (record m { gas = m.gas - 1 }) (instr_at m.code m.counter)
@@ -65,7 +66,7 @@ abbrev pub go_on : (Machine → Stepped) → Machine → Step → Stepped
 go_on more m answer.Next = more m
 go_on more m how = stayed m how
 
--- steps until one does not go on to the next instruction, at most so many and one more
+-- steps until one does not go on to the next instruction, at most n + 1
 unfoldable pub repeated : ℕ → Machine → Stepped
 repeated zero m = stepped m
 repeated (suc n) m = go_on (repeated n) (stepped m).machine (stepped m).answer
@@ -110,9 +111,16 @@ abbrev pub CallsFrom : Listing → Step → Type 0
 CallsFrom code (answer.Host number) = HasCall code
 CallsFrom code how = Unit {0}
 
--- what no step changes: the program, how far the heap may grow, and how many pages the memory may have
+-- What no step changes: the program, how far the heap may grow, and how many pages the memory may have. The heap's end
+-- only rises, and the gas only falls. The memory has no more pages than it may, if it had no more before. Without a heap,
+-- the heap's end and the number of pages stay.
 pub record Keeps (old new : Machine) : Type 0 where
   pub table : new.table ≡ old.table
   pub code : new.code ≡ old.code
   pub heap_bound : new.state.heap_bound ≡ old.state.heap_bound
   pub frame_limit : new.state.frame_limit ≡ old.state.frame_limit
+  pub heap_top : old.state.heap_top ≤ new.state.heap_top
+  pub gas : new.gas ≤ old.gas
+  pub within : map.len old.state.memory ≤ old.state.frame_limit → map.len new.state.memory ≤ new.state.frame_limit
+  pub frames : old.state.heap_bound ≡ 0 → map.len new.state.memory ≡ map.len old.state.memory
+  pub heap_end : old.state.heap_bound ≡ 0 → new.state.heap_top ≡ old.state.heap_top

@@ -24,7 +24,7 @@ pub(crate) type Registers = [u64; 13];
 /// What an instruction came to, beside what it wrote.
 #[derive(Clone, Copy, Debug, PartialEq, Eq)]
 pub(crate) enum Outcome {
-    /// It goes on to the instruction behind it.
+    /// It goes on to the instruction after it.
     Next,
     /// It goes to the block that starts at this position.
     Jump(u64),
@@ -36,7 +36,7 @@ pub(crate) enum Outcome {
     Fault(u32),
     /// It calls the host by this number.
     Call(u64),
-    /// The heap is to grow by a number of bytes, and a register to take where it ended. It wrote nothing so far.
+    /// The heap is to grow by a number of bytes, and a register to take its old end. Nothing is written yet.
     Sbrk(u8, u64),
 }
 

@@ -6,6 +6,7 @@
 
 mod accesses;
 mod answers;
+mod cores;
 mod instructions;
 mod laws;
 mod machine;
@@ -13,5 +14,6 @@ mod operation;
 mod start_memory;
 
 pub use answers::{Exit, StartFault, Step};
-pub use laws::{effects_keep_targets, operations_have_forms, steps_are_turns};
+pub use cores::{Core, run_core};
+pub use laws::{effects_keep_targets, operations_have_forms, steps_are_turns, steps_stay_within};
 pub use machine::Machine;

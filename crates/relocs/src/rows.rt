@@ -101,7 +101,7 @@ pub(crate) fn starts_of(
     Ok(starts)
 }
 
-/// The number of those with an offset below a limit, of which there are so many at least.
+/// The number of those with an offset below a limit, which is at least `from`.
 fn first_from(row: &[Relocation], from: usize, limit: u128) -> usize
     requires rises { IsNonDecreasingBy offset_of row.now }
     requires between { IsBetween row.now limit from (length row.now) }
@@ -126,6 +126,7 @@ pub(crate) fn at_offset(row: &[Relocation], offset: u64) -> &[Relocation]
 }
 
 /// Those at an offset, which are from one index to another.
+#[inline(always)]
 pub(crate) fn at_offset_in(row: &[Relocation], offset: u64, from: usize, to: usize) -> &[Relocation]
     requires rises { IsNonDecreasingBy offset_of row.now }
     requires first { IsBetween row.now offset from to }
@@ -138,6 +139,7 @@ pub(crate) fn at_offset_in(row: &[Relocation], offset: u64, from: usize, to: usi
 }
 
 /// The number of those with an offset below a limit, which is from one number to another.
+#[inline(always)]
 fn bound(row: &[Relocation], limit: u128, from: usize, to: usize) -> usize
     requires rises { IsNonDecreasingBy offset_of row.now }
     requires between { IsBetween row.now limit from to }

@@ -23,6 +23,7 @@ use rv_decode::{Reg, RvOp, WordFault};
 
 impl Sources<'_, '_, '_> {
     /// The operation at an offset of a code section, before relocation.
+    #[inline(always)]
     pub fn op_at(&self, object: u32, section: u32, offset: u64) -> Option<RvOp>
         ghost given: { Given }
         requires sources { IsSourcesOf given self.now }
@@ -33,6 +34,7 @@ impl Sources<'_, '_, '_> {
     }
 
     /// What the word at an offset of a code section is, where the offset can be a place.
+    #[inline(always)]
     fn word(&self, object: u32, section: u32, offset: u64) -> Option<Result<RvOp, WordFault>>
         ghost given: { Given }
         requires sources { IsSourcesOf given self.now }
@@ -59,6 +61,7 @@ impl Sources<'_, '_, '_> {
     }
 
     /// The relocations at an offset of a code section that change something, in table order. The sources have an index.
+    #[inline(always)]
     pub fn relocations(&self, object: u32, section: u32, offset: u64) -> &[Relocation]
         ghost given: { Given }
         requires sources { IsSourcesOf given self.now }
@@ -221,6 +224,7 @@ pub(crate) fn word_in(bytes: &[u8], offset: u64) -> Option<Result<RvOp, WordFaul
 }
 
 /// The operation of a word, where it is none that is faulty.
+#[inline(always)]
 pub(crate) fn operation(word: Option<Result<RvOp, WordFault>>) -> Option<RvOp>
     ensures { result ≡ decoded word }
 {
@@ -250,6 +254,7 @@ fn is_code_offset(size: usize, offset: u64) -> bool
 }
 
 /// Whether an operation is an `auipc`.
+#[inline(always)]
 pub fn holds_auipc(op: Option<RvOp>) -> bool
     ensures { result ≡ holds_the_auipc op }
 {

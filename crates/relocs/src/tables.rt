@@ -61,6 +61,7 @@ impl Row {
         })
     }
 
+    #[inline(always)]
     fn at(&self, offset: u64) -> &[Relocation]
         requires { HasParts self.now }
         ensures { result.now ≡ filter (is_at offset) self.now.relocations }
@@ -76,6 +77,7 @@ impl Row {
     }
 
     /// A number of relocations before an offset, of which there may be more in its word.
+    #[inline(always)]
     fn start(&self, offset: u64) -> usize
         requires { HasParts self.now }
         ensures { (k : ℕ) (r : TheRelocation) → k < result → slice_get self.now.relocations k ≡ Some r → r.offset < offset }
@@ -87,6 +89,7 @@ impl Row {
     }
 
     /// A number of relocations with those at an offset or before it among them.
+    #[inline(always)]
     fn end(&self, offset: u64) -> usize
         requires { HasParts self.now }
         ensures within { result ≤ length self.now.relocations }
@@ -123,6 +126,7 @@ impl Row {
         )
     }
 
+    #[inline(always)]
     fn word(&self, offset: u64) -> Option<Result<RvOp, WordFault>>
         ensures { result ≡ kept_word self.now.words offset }
     {
@@ -134,6 +138,7 @@ impl Row {
         }
     }
 
+    #[inline(always)]
     fn size(&self) -> usize
         ensures { result ≡ self.now.size }
     {
@@ -184,6 +189,7 @@ impl Rows {
         Ok(Rows { rows })
     }
 
+    #[inline(always)]
     fn row(&self, section: u32) -> &Row
         requires { section < length self.now }
         ensures { slice_get self.now section ≡ Some result.now }
@@ -220,6 +226,7 @@ impl Tables {
     }
 
     /// The relocations at an offset of a section that change something, in table order.
+    #[inline(always)]
     pub fn at(&self, objects: &Objects<'_>, object: u32, section: u32, offset: u64) -> &[Relocation]
         requires tables { HasTables objects.now self.now }
         requires section { HasSection objects.now object section }
@@ -264,6 +271,7 @@ impl Tables {
     }
 
     /// What the word at an offset of a code section is, where the offset can be a place.
+    #[inline(always)]
     pub(crate) fn word(
         &self,
         objects: &Objects<'_>,
@@ -279,6 +287,7 @@ impl Tables {
     }
 
     /// The operation at an offset of a code section, before relocation.
+    #[inline(always)]
     pub fn op(&self, objects: &Objects<'_>, object: u32, section: u32, offset: u64) -> Option<RvOp>
         requires tables { HasTables objects.now self.now }
         requires code { IsCodeIn objects.now object section }
@@ -288,6 +297,7 @@ impl Tables {
     }
 
     /// The number of bytes of a code section.
+    #[inline(always)]
     pub fn size(&self, objects: &Objects<'_>, object: u32, section: u32) -> usize
         requires tables { HasTables objects.now self.now }
         requires code { IsCodeIn objects.now object section }
@@ -296,6 +306,7 @@ impl Tables {
         self.rows(object).row(section).size()
     }
 
+    #[inline(always)]
     fn rows(&self, object: u32) -> &Rows
         requires { object < length self.now }
         ensures { slice_get self.now object ≡ Some result.now }

@@ -26,7 +26,7 @@ or-true false = refl
 pub AddsMarks-no_effect : (marks : List Bool) (relocation : Relocation) → has_effect relocation.kind ≡ false → AddsMarks marks marks (λ number. names_symbol number relocation)
 AddsMarks-no_effect marks relocation e number lt = rw e (or-false (mark_at marks number))
 
--- nor where it names a symbol behind the last
+-- nor if it names a symbol after the last
 pub AddsMarks-past : (marks : List Bool) (relocation : Relocation) → length marks ≤ relocation.symbol → AddsMarks marks marks (λ number. names_symbol number relocation)
 AddsMarks-past marks relocation le number lt = by (has_effect relocation.kind) (nat_eq relocation.symbol number) refl
   where

@@ -1,4 +1,4 @@
--- What follows from what a name means: where its definition stands, and that there is none.
+-- What follows from the meaning of a name: where its definition is, or that there is none.
 use Rattle.std.proofs.Common.{◌≡◌, ℕ, zero, suc, ◌<◌, Bool, true, false, ◌&&◌, subst, length, List, Option, Some, None, refl, ◌∙◌, ap, arith}
 use Rattle.std.specs.Option.{option_map}
 use Rattle.faults.specs.First.{◌or_else◌, where_true, first_below}
@@ -22,7 +22,7 @@ first_below-holds {A} P (suc n) f each x e = by (first_below n f) refl (λ y. fi
     by None none below = each n x (omega arith) (rw none at e)
     by (Some y) some below = below x (some ∙ (rw some at e))
 
--- the definition stands at its numbers
+-- the definition is at its numbers
 pub record Stands (objects : List Object) (d : Definition) : Type 0 where
   pub object_in : d.object < length objects
   pub number_in : d.number < symbol_count objects d.object

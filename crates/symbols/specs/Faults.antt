@@ -1,4 +1,4 @@
--- The faults of names: what the objects and the wanted names have that can't be linked, in the order in which it is told.
+-- The faults of names: what the objects and the wanted names have that can't be linked, in the order of reporting.
 use Rattle.std.specs.Prelude.{ℕ, ◌%◌, List, Bool, true, false, not, ◌&&◌, nat_eq, length, Option, Some, None, is_some, is_none, ◌≡◌}
 use Rattle.std.specs.List.{list_any}
 use Rattle.faults.specs.Present.{broken, ◌followed_by◌, each_below, first_in}
@@ -105,7 +105,7 @@ symbol_faults given =
     each_below (length given.objects) (faults_of_object given)
     followed_by each_below (length given.wanted.entries) (faults_of_entry given)
 
--- The first fault is told; memory may be refused at any time.
+-- The first fault is reported; an allocation may fail at any time.
 abbrev pub Refuses : SymbolFault → List Fault → Type 0
 Refuses (Bad fault) faults = first_in faults ≡ Some fault
 Refuses Memory faults = Unit {0}

@@ -15,7 +15,7 @@ use Rattle.symbols.specs.Faults.{is_named, is_named_in}
 abbrev pub meaning_in : List (List ℕ × Meaning) → List ℕ → Option Meaning
 meaning_in names name = lookup (same name) names
 
--- a name is added behind the others, where the table doesn't have it
+-- a name is added after the others, if the table doesn't have it
 abbrev pub added : List (List ℕ × Meaning) → List ℕ → Meaning → List (List ℕ × Meaning)
 added names name meaning = if is_some (meaning_in names name) then names else names ++ (name, meaning) ∷ []
 

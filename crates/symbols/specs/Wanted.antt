@@ -11,7 +11,7 @@ pub record Import : Type 0 where
   pub name : List ℕ
   pub kind : ImportKind
 
--- the names of the entries, the imports, and how many bytes the stack has
+-- the entries by name, the imports, and the size of the stack in bytes
 pub record Wanted : Type 0 where
   pub entries : List (List ℕ)
   pub imports : List Import

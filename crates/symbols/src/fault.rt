@@ -24,7 +24,7 @@ pub const ENTRY_NOT_CODE: u8 = 13;
 pub enum SymbolFault {
     /// The objects and wanted names have a fault, of which this is the first.
     Bad(Fault),
-    /// Memory was refused.
+    /// An allocation failed.
     Memory,
 }
 

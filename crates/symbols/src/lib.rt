@@ -1,6 +1,6 @@
-//! What the symbols of a link's objects and the names of its entries stand for (System V gABI, "Symbol Table").
+//! The meaning of the symbols of a link's objects and of the names of its entries (System V gABI, "Symbol Table").
 //!
-//! What a link is given stands in `specs/Wanted.antt`, the rule in `specs/Resolution.antt` and its faults in
+//! The input of a link is in `specs/Wanted.antt`, the rule in `specs/Resolution.antt` and its faults in
 //! `specs/Faults.antt`. `resolve` computes it in one table of names and answers a `Resolved`, which the later parts of
 //! the linker ask.
 #![tactic(auto)]

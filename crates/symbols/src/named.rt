@@ -10,10 +10,10 @@ use std::alloc::{AllocError, Global};
 /// The kind of the relocation that does nothing (psABI, "Relocations").
 pub const NONE: u32 = 0;
 
-/// The kind of the relocation that tells how code is aligned.
+/// The relocation type for the alignment of code.
 pub const ALIGN: u32 = 43;
 
-/// The kind of the relocation that allows the words that it stands at to be replaced.
+/// The relocation type that allows a linker to replace the words at its offset.
 pub const RELAX: u32 = 51;
 
 /// For each symbol of an object, whether a relocation of a loaded section names it.

@@ -14,7 +14,7 @@ pub(crate) enum Meaning {
     Imported(u32),
 }
 
-/// A table of names with what each means, in the order of their addition. The names are lent. They are found by their
+/// A table of names with what each means, in the order of their addition. The names are borrowed. They are found by their
 /// order, as a file can be made whose names a hash table finds only one by one.
 #[derive(Drop)]
 pub(crate) struct Names<'a> {
@@ -36,7 +36,7 @@ impl<'a> Model for Names<'a> {
 }
 
 impl<'a> Names<'a> {
-    /// No names, with room for so many.
+    /// No names, with room for `count`.
     pub(crate) fn with_capacity(alloc: Global, count: usize) -> Result<Names<'a>, AllocError>
         ensures { IfOk result (λ names. names ≡ []) }
     {

@@ -22,7 +22,7 @@ impl Model for Places {
 }
 
 impl Places {
-    /// No places, with room for so many.
+    /// No places, with room for `count`.
     pub(crate) fn with_capacity(alloc: Global, count: u32) -> Result<Places, AllocError>
         ensures { IfOk result (λ places. places ≡ []) }
     {

@@ -103,7 +103,7 @@ impl Model for Wanted {
 }
 
 impl Wanted {
-    /// No entries and no imports, and a stack of so many bytes, fewer than 2^24. It takes no memory.
+    /// No entries and no imports, and the size of the stack, below 2^24 bytes. It takes no memory.
     pub fn new(alloc: Global, stack: u32) -> Wanted
         requires { stack < 2 ^ 24 }
         ensures { result ≡ record { entries = []; imports = []; stack = stack } }
@@ -116,7 +116,7 @@ impl Wanted {
         }
     }
 
-    /// Adds an entry, of which there are at most 1,000. Where memory is refused, all stays as it was.
+    /// Adds an entry, of which there are at most 1,000. If an allocation fails, nothing changes.
     pub fn entry(&mut self, name: &[u8]) -> Result<(), AllocError>
         requires { length self.old.entries < 1000 }
         ensures ok { OnOk result (self.new ≡ record self.old { entries = self.old.entries ++ name.now ∷ [] }) }
@@ -128,7 +128,7 @@ impl Wanted {
     }
 
     /// Adds an import, of which there are at most 1,000, under a name that has none. A host call's number is below
-    /// 2^31. Where memory is refused, all stays as it was.
+    /// 2^31. If an allocation fails, nothing changes.
     pub fn import(&mut self, name: &[u8], kind: ImportKind) -> Result<(), AllocError>
         requires room { length self.old.imports < 1000 }
         requires new_name { import_of self.old name.now ≡ None }

@@ -1,6 +1,7 @@
 pub mod Looping
 mod Hexadecimal
 mod Ranges
+mod Answering
 mod Ending
 pub mod Writing
 pub mod Reading

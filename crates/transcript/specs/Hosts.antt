@@ -1,14 +1,15 @@
--- How host calls are answered by a list of replies.
-use Rattle.std.specs.Prelude.{◌≡◌, ℕ, zero, suc, ◌+◌, ◌<◌, ◌^◌, List, [], ◌∷◌, length, true, if◌then◌else◌, Option, Some, None, Result, Ok, Err, refl}
+-- How the host calls of a run are answered: those on inner machines by what they do, and every other by the next of a list
+-- of replies.
+use Rattle.std.specs.Prelude.{◌≡◌, ℕ, zero, suc, ◌+◌, ◌<◌, ◌^◌, List, [], ◌∷◌, length, drop, true, if◌then◌else◌, Option, Some, None, Result, Ok, Err, refl}
 use Rattle.std.specs.Coded.{Coded, code_by, coded×, coded_ℕ, coded_list}
-use Rattle.std.specs.Ordering.{nat_cmp}
-use Rattle.std.specs.FinMap as finite
 use Rattle.runs.specs.World.{World}
 use Rattle.machine_state.specs.Memory.{Memory}
 use Rattle.machine_state.specs.State.{State, with_register, with_memory}
 use Rattle.machine_state.specs.Ends.{Unanswered, BadReply, Answer, Answered, Ended, Host}
 use Rattle.page_memory.specs.Access.{is_refused, with_bytes}
 use Rattle.pvm_machine.specs.Machine.{Machine}
+use Rattle.inner_machines.specs.Inner.{Inners, no_inners}
+use Rattle.inner_machines.specs.Calls.{is_nest_call, nest_call}
 
 -- a reply: the values of r7 and r8, and bytes to write, each list with the address of its first
 pub record Reply : Type 0 where
@@ -29,21 +30,15 @@ reply_code =
     (λ p. record { first = p.0; second = p.1.0; pieces = p.1.1 })
     (λ _. refl)
 
--- an inner machine, with the bytes of its program, its memory and its counter
-pub record Inner : Type 0 where
-  pub program : List ℕ
-  pub memory : Memory
-  pub counter : ℕ
-
 -- what the host holds: the replies that are left, how many were given before them, and the inner machines by number
 pub record HostState : Type 0 where
   pub replies : List Reply
   pub given : ℕ
-  pub inner : finite.FinMap nat_cmp Inner
+  pub inner : Inners
 
 -- the host of a start
 abbrev pub start_host : List Reply → HostState
-start_host replies = record { replies = replies; given = 0; inner = finite.empty }
+start_host replies = record { replies = replies; given = 0; inner = no_inners }
 
 -- the first of the given number of addresses from one on that may not be written
 unfoldable pub first_refused : Memory → ℕ → ℕ → Option ℕ
@@ -79,9 +74,19 @@ abbrev pub by_replies : List Reply → ℕ → World State HostState → Answer 
 by_replies [] number w = Ended (Unanswered number w.state.memory)
 by_replies (r ∷ rs) number w = reply_or (refused_of w.state.memory r.pieces) r (record { replies = rs; given = w.held.given + 1; inner = w.held.inner }) w.state
 
--- the host of a run with replies
-abbrev pub replying : Host HostState
-replying number w = by_replies w.held.replies number w
+-- the answer by a call on inner machines, which leaves the replies
+abbrev pub by_nest : HostState → Answer Inners → Answer HostState
+by_nest held (Answered spent rest next) = Answered spent rest (record { state = next.state; held = record held { inner = next.held } })
+by_nest held (Ended end) = Ended end
+
+-- the host of a run, for both machines
+abbrev pub answering : Host HostState
+answering number w =
+    if is_nest_call number then by_nest w.held (nest_call number (record { state = w.state; held = w.held.inner })) else by_replies w.held.replies number w
+
+-- what the host holds after the given number of replies
+abbrev pub left_of : List Reply → ℕ → Inners → HostState
+left_of replies given inners = record { replies = drop given replies; given = given; inner = inners }
 
 -- A machine was answered by a reply. Where the result is an address, it is the first that may not be written, and nothing
 -- changed.

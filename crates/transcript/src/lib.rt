@@ -5,6 +5,7 @@
 //! has the lines, and `specs/Telling.antt` what a run leaves and writes.
 #![tactic(auto)]
 
+mod calls;
 mod lines;
 mod number_parts;
 mod output;

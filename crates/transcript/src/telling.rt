@@ -1,16 +1,19 @@
-//! A machine is run to its end, with replies to its calls and with its transcript.
+//! A machine is run to its end, with answers to its calls and with its transcript.
 
 ghost use Rattle.std.specs.Prelude.{◌≡◌};
 ghost use Rattle.pvm_machine.specs.Ran.{run_with};
-ghost use Rattle.transcript.specs.Hosts.{replying, start_host};
+ghost use Rattle.transcript.specs.Hosts.{answering, start_host};
 ghost use Rattle.transcript.specs.declared.telling.TellFault.TheVariants.{Failed as Fails};
 ghost use Rattle.transcript.specs.Telling.{RunsOut, Tells};
 
+use crate::calls::{Reaction, answer};
 use crate::lines::{end_lines, event_line};
 use crate::replies::Replies;
 use crate::run_end::RunEnd;
+use inner_machines::Nest;
 use outside::{Failed, Sink};
 use pvm_machine::{Exit, Machine};
+use std::alloc::Global;
 
 /// Why a run has no whole transcript.
 #[derive(Clone, Copy, Debug, PartialEq, Eq)]
@@ -29,36 +32,41 @@ impl From<Failed> for TellFault {
     }
 }
 
-/// Runs a machine to its end, with replies to its calls, and puts the transcript: the line of a call before it is
-/// answered, and at last the lines of the end and of the gas that is left.
+/// Runs a machine to its end, with its inner machines, which it makes by its calls, and with replies to its other calls.
+/// It puts the transcript: the line of a call before it is answered, and at last the lines of the end and of the gas that
+/// is left.
 ///
 /// # Errors
-/// A put fails, after a prefix of the transcript. Or an allocation fails, at an `sbrk` that would map pages; then the
-/// lines of the calls before it were put.
+/// A put fails, after a prefix of the transcript. Or an allocation fails: at an `sbrk` that would map pages, where the
+/// lines of the calls before it were put; or at a call that makes an inner machine or pages of one, where its line was put
+/// too.
 pub fn tell<S: Sink>(
+    alloc: Global,
     machine: &mut Machine<'_>,
     replies: &Replies,
     out: &mut S,
 ) -> Result<RunEnd, TellFault>
-    ensures { Tells (run_with replying (start_host replies.now) machine.old) machine.new result
+    ensures { Tells (run_with answering (start_host replies.now) machine.old) machine.new result
         (record { text = S.bytes out.old; puts = S.faults out.old })
         (record { text = S.bytes out.new; puts = S.faults out.new }) }
 {
-    let end = run_out(machine, replies, out)?;
+    let end = run_out(alloc, machine, replies, out)?;
     end_lines(out, &end, machine)?;
     Ok(end)
 }
 
-/// Runs a machine to its end, with replies to its calls, and puts the line of each call before it is answered.
+/// Runs a machine to its end, and puts the line of each call before it is answered.
 fn run_out<S: Sink>(
+    alloc: Global,
     machine: &mut Machine<'_>,
     replies: &Replies,
     out: &mut S,
 ) -> Result<RunEnd, TellFault>
-    ensures { RunsOut (run_with replying (start_host replies.now) machine.old) machine.new result
+    ensures { RunsOut (run_with answering (start_host replies.now) machine.old) machine.new result
         (record { text = S.bytes out.old; puts = S.faults out.old })
         (record { text = S.bytes out.new; puts = S.faults out.new }) }
 {
+    let mut nest = Nest::new(alloc);
     let mut given = 0;
     loop {
         match machine.run() {
@@ -68,14 +76,10 @@ fn run_out<S: Sink>(
             Exit::OutOfGas => return Ok(RunEnd::OutOfGas),
             Exit::Host(number) => {
                 event_line(out, number, machine)?;
-                if given == replies.len() {
-                    return Ok(RunEnd::Unanswered(number));
+                match answer(&mut nest, replies, given, machine, number)? {
+                    Reaction::GoesOn(now) => given = now,
+                    Reaction::Ends(end) => return Ok(end),
                 }
-                let line = given + 1;
-                if let Err(address) = replies.answer(given, machine) {
-                    return Ok(RunEnd::BadReply { line, address });
-                }
-                given = line;
             }
             Exit::Memory => return Err(TellFault::Memory),
         }

@@ -64,9 +64,32 @@ fn run_one(
     let mut machine = Machine::start(alloc, &container, 0, &[], gas)?;
     let mut out = MemorySink::new(alloc, 400)?;
     let replies = short_replies(alloc, file)?;
-    assert_eq!(rt; tell(&mut machine, &replies, &mut out), Ok(end));
+    assert_eq!(rt; tell(alloc, &mut machine, &replies, &mut out), Ok(end));
     assert!(rt; out.bytes().starts_with(CALL.as_bytes()));
     assert!(rt; out.bytes().ends_with(text.as_bytes()));
     assert_eq!(rt; out.bytes().len(), CALL.len() + text.len());
+    Ok(())
+}
+
+/// A container with a stack of 2^16 bytes, whose code is `jump 5`, `ecalli 13`, `ecalli 7` and `jump_ind ra, 0`.
+const CALLS_TWICE: [u8; 31] = [
+    0x00, 0x00, 0x00, 0x00, 0x00, 0x00, 0x00, 0x00, 0x00, 0x00, 0x01, 0x10, 0x00, 0x00, 0x00, 0x00,
+    0x01, 0x0b, 0x28, 0x05, 0x00, 0x00, 0x00, 0x0a, 0x0d, 0x0a, 0x07, 0x32, 0x00, 0xa1, 0x02,
+];
+
+/// A call on inner machines leaves the replies to the others. There is no machine, so its result is that of no such number.
+#[test]
+fn inner_machines_answer_before_replies(rt: HostRuntime) -> Result<(), Fail> {
+    let container = Container::read(&CALLS_TWICE)?;
+    let mut machine = Machine::start(rt.alloc(), &container, 0, &[], 10)?;
+    let mut out = MemorySink::new(rt.alloc(), 1000)?;
+    let replies = short_replies(rt.alloc(), "r7=0 r8=0\n")?;
+    assert_eq!(rt;
+        tell(rt.alloc(), &mut machine, &replies, &mut out),
+        Ok(RunEnd::Halt)
+    );
+    let lines =
+        "call 13 00000000ffff0000 00000000fefe0000 0000000000000000 0000000000000000 0000000000000000 0000000000000000 0000000000000000 00000000feff0000 0000000000000000 0000000000000000 0000000000000000 0000000000000000 0000000000000000\ncall 7 00000000ffff0000 00000000fefe0000 0000000000000000 0000000000000000 0000000000000000 0000000000000000 0000000000000000 fffffffffffffffc 0000000000000000 0000000000000000 0000000000000000 0000000000000000 0000000000000000\nhalt output=\ngas left=6\n";
+    assert_eq!(rt; out.bytes(), lines.as_bytes());
     Ok(())
 }

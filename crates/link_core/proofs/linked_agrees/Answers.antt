@@ -7,4 +7,4 @@ returns c =
     let placing = c.code_is_placed.ensures in
     let effects = c.effects_keep_targets.ensures in
     agreement.linked_agrees c.source_lock.ensures c.bounds_stay.ensures lowering.cut lowering.all lowering.entries lowering.stand lowering.instrs lowering.places lowering.placeable
-    placing.placed placing.wide effects.renamed effects.plain effects.named effects.of_target effects.aimed c.start_is_good.ensures
+    placing.placed effects.renamed effects.plain effects.named effects.of_target effects.aimed c.start_is_good.ensures c.calls_answer_well.ensures

@@ -3,6 +3,7 @@ use Rattle.lower.proofs.Immediates.{words_are_lowerable}
 use Rattle.lower.proofs.Alone.{operations_are_lowered}
 use Rattle.lower.proofs.Jumps.{all_are_lowered, calls_are_lowered}
 use Rattle.lower.proofs.Blocks.{blocks_are_carried, blocks_are_placeable}
+use Rattle.lower.proofs.Cuts.{runs_are_maximal}
 use Rattle.lower.proofs.Endings.{endings_are_placeable}
 
 pub returns-clause-words : goal.returns-clause-words
@@ -16,6 +17,9 @@ returns-clause-jumps c = all_are_lowered
 
 pub returns-clause-calls : goal.returns-clause-calls
 returns-clause-calls c = calls_are_lowered
+
+pub returns-clause-runs : goal.returns-clause-runs
+returns-clause-runs c = runs_are_maximal
 
 pub returns-clause-endings : goal.returns-clause-endings
 returns-clause-endings c = endings_are_placeable

@@ -1,12 +1,15 @@
-use Rattle.std.proofs.Common.{◌≡◌, ℕ, ◌<◌, ◌≤◌, length, slice_index}
-use Rattle.jump_table.specs.Assembly.{start_of, four_each}
-use Rattle.jump_table.specs.Assembling.{most_bytes}
+use Rattle.std.proofs.Common.{◌≡◌, ℕ, ◌-◌, ◌*◌, List, length, sum}
+use Rattle.jump_table.specs.Lengths.{Below}
+use Rattle.jump_table.specs.Shapes.{Wide, AtMost4}
 use Rattle.jump_table.proofs.positions.positions_of.Given as goal
 
-abbrev pub invariant-loop-block : goal.invariant-loop-block
-invariant-loop-block l = record {
-  count : length l.starts.items ≡ l.block;
-  each : (k : ℕ) → k < l.block → slice_index l.starts.items k ≡ start_of (four_each l.blocks) l.blocks k;
-  end : l.end ≡ start_of (four_each l.blocks) l.blocks l.block;
-  small : l.end ≤ most_bytes;
+abbrev pub invariant-loop-starts : goal.invariant-loop-starts
+invariant-loop-starts l = record {
+  lengths_count : length l.lengths.items ≡ length l.shapes.items;
+  starts_count : length l.starts.items ≡ length l.shapes.items;
+  most : AtMost4 l.lengths.items;
+  least : (other : List ℕ) → Wide l.shapes.items other → Below l.lengths.items other;
 }
+
+abbrev pub decreases-loop-starts : goal.decreases-loop-starts
+decreases-loop-starts l = 4 * length l.shapes.items - sum l.lengths.items

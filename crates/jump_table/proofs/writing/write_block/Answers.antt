@@ -1,11 +1,12 @@
 use Rattle.std.proofs.Common.{◌≡◌, ◌+◌, ◌<◌, ℕ, List, Option, Some, None, length, get_or, sym, ap, ◌∙◌, arith, length-append}
-use Rattle.std.specs.Prelude.{IfSome}
+use Rattle.std.specs.Prelude.{IfSome, slice_index}
+use Rattle.std.proofs.lemmas.List.{get_or_read}
 use Rattle.pvm_ops.specs.declared.instr.Instr.{Instr}
 use Rattle.pvm_ops.specs.Listing.{Listing}
 use Rattle.pvm_ops.specs.Fetch.{trap}
 use Rattle.pvm_ops.specs.Spelling.{spelling}
 use Rattle.pvm_ops.specs.BlockList.{BlockList, block_at}
-use Rattle.jump_table.specs.Assembly.{offset_len, first_of, instr_position, four_each}
+use Rattle.jump_table.specs.Assembly.{first_of, instr_position}
 use Rattle.jump_table.specs.Laws.{IsAssemblable}
 use Rattle.jump_table.specs.Assembling.{AreStarts, instr_at, with_word}
 use Rattle.jump_table.proofs.Steps.{instr_known, next_known, next_fits, next_instr, next_is, target_within, instr_more, instr_next, instr_within, word_mask}
@@ -17,8 +18,8 @@ within list starts block None plain same lt e = tt
 within list starts block (Some to) plain same lt e = omega (arith, target_within list plain block to lt e)
 
 -- the instruction that is written
-written : (list : BlockList) (starts from : List ℕ) (items : List Instr) (block k at size : ℕ) (target : Option ℕ) (i : Instr) → IsAssemblable list → AreStarts (four_each list) list from → block < length list.blocks → items ≡ (block_at list block).instrs → target ≡ (block_at list block).target → starts ≡ from → at ≡ size → size ≡ instr_position (four_each list) list (first_of list block + k) → i ≡ instr_at at (get_or items k trap) target starts → i ≡ next_instr list block k
-written list starts from items block k at size target i plain are lt is_items is_target is_starts is_at is_size is = is ∙ rw (is_items, is_target, is_starts) (next_is list from plain are block k at lt (is_at ∙ is_size))
+written : (lengths : List ℕ) (list : BlockList) (starts from : List ℕ) (items : List Instr) (block k at size : ℕ) (target : Option ℕ) (i : Instr) → IsAssemblable list → AreStarts lengths list from → block < length list.blocks → items ≡ (block_at list block).instrs → target ≡ (block_at list block).target → starts ≡ from → at ≡ size → size ≡ instr_position lengths list (first_of list block + k) → i ≡ instr_at at (get_or items k trap) target starts → i ≡ next_instr lengths list block k
+written lengths list starts from items block k at size target i plain are lt is_items is_target is_starts is_at is_size is = is ∙ rw (is_items, is_target, is_starts) (next_is lengths list from plain are block k at lt (is_at ∙ is_size))
 
 pub instr_at-instr-requires-clause-known : goal.instr_at-instr-requires-clause-known
 instr_at-instr-requires-clause-known c =
@@ -34,11 +35,12 @@ place-requires c =
     let block = c.args.block in
     let k = c.loop-instr.instr-index in
     let inside : k < length (block_at list block).instrs = omega (arith, ap length c.block-instr-items.ensures) in
-    let is = written list c.deref.result.now c.args.positions.now.starts.items c.block-instr-items.result.now block k c.len.result (length c.loop-instr.writer.bytes) c.target-target.result c.instr_at-instr.result c.requires.blocks c.requires.positions.are_starts c.requires.block c.block-instr-items.ensures c.target-target.ensures c.deref.ensures.value c.len.ensures c.loop-instr.invariant.at c.instr_at-instr.ensures in
+    let len_is = get_or_read c.args.positions.now.lengths.items block c.index-len.result.now (omega (arith, c.requires.positions.are_lengths.count, c.requires.block)) c.index-len.ensures 0 in
+    let is = written c.args.positions.now.lengths.items list c.deref.result.now c.args.positions.now.starts.items c.block-instr-items.result.now block k c.len.result (length c.loop-instr.writer.bytes) c.target-target.result c.instr_at-instr.result c.requires.blocks c.requires.positions.are_starts c.requires.block c.block-instr-items.ensures c.target-target.ensures c.deref.ensures.value c.len.ensures c.loop-instr.invariant.at c.instr_at-instr.ensures in
     record {
-      known = rw is (next_known list c.requires.blocks block k c.requires.block inside);
-      encodable = rw is (next_fits list c.requires.blocks (omega arith) block k c.requires.block inside);
-      room = omega (arith, instr_within list block k c.requires.block inside);
+      known = rw is (next_known c.args.positions.now.lengths.items list c.requires.blocks block k c.requires.block inside);
+      encodable = rw (is, len_is) (next_fits c.args.positions.now.lengths.items list c.requires.blocks c.requires.positions.are_lengths.wide (omega arith) block k c.requires.block inside);
+      room = omega (arith, instr_within c.args.positions.now.lengths.items list block k c.requires.block inside);
     }
 
 pub loop-instr-preserved : goal.loop-instr-preserved
@@ -48,11 +50,12 @@ loop-instr-preserved c =
     let k = c.loop-instr.instr-index in
     let writer = c.loop-instr.writer in
     let inside : k < length (block_at list block).instrs = omega (arith, ap length c.block-instr-items.ensures) in
-    let is = written list c.deref.result.now c.args.positions.now.starts.items c.block-instr-items.result.now block k c.len.result (length writer.bytes) c.target-target.result c.instr_at-instr.result c.requires.blocks c.requires.positions.are_starts c.requires.block c.block-instr-items.ensures c.target-target.ensures c.deref.ensures.value c.len.ensures c.loop-instr.invariant.at c.instr_at-instr.ensures in
-    let word = spelling (next_instr list block k) offset_len in
-    let placed : c.place.new.self ≡ with_word writer word = c.in_ok-place.ensures ∙ ap (λ (i : Instr). with_word writer (spelling i offset_len)) is in
+    let len_is = get_or_read c.args.positions.now.lengths.items block c.index-len.result.now (omega (arith, c.requires.positions.are_lengths.count, c.requires.block)) c.index-len.ensures 0 in
+    let is = written c.args.positions.now.lengths.items list c.deref.result.now c.args.positions.now.starts.items c.block-instr-items.result.now block k c.len.result (length writer.bytes) c.target-target.result c.instr_at-instr.result c.requires.blocks c.requires.positions.are_starts c.requires.block c.block-instr-items.ensures c.target-target.ensures c.deref.ensures.value c.len.ensures c.loop-instr.invariant.at c.instr_at-instr.ensures in
+    let word = spelling (next_instr c.args.positions.now.lengths.items list block k) (slice_index c.args.positions.now.lengths.items block) in
+    let placed : c.place.new.self ≡ with_word writer word = c.in_ok-place.ensures ∙ ap (λ (i : Instr). with_word writer (spelling i c.index-len.result.now)) is ∙ ap (λ (len : ℕ). with_word writer (spelling (next_instr c.args.positions.now.lengths.items list block k) len)) len_is in
     record {
-      left = rw placed (sym (instr_more list writer block k inside) ∙ c.loop-instr.invariant.left);
-      at = ap (λ (code : Listing). length code.bytes) placed ∙ omega (arith, length-append writer.bytes word, instr_next list block k c.requires.block inside);
+      left = rw placed (sym (instr_more c.args.positions.now.lengths.items list writer block k inside) ∙ c.loop-instr.invariant.left);
+      at = ap (λ (code : Listing). length code.bytes) placed ∙ omega (arith, length-append writer.bytes word, instr_next c.args.positions.now.lengths.items list block k c.requires.block inside);
       room = ap (λ (code : Listing). length code.mask) placed ∙ word_mask writer word ∙ c.loop-instr.invariant.room;
     }

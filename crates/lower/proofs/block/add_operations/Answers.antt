@@ -1,17 +1,20 @@
-use Rattle.std.proofs.Common.{ap, ◌∙◌, arith}
-use Rattle.lift_blocks.specs.Kept.{operation_of}
+use Rattle.std.proofs.Common.{◌≡◌, sym, ap, ◌∙◌, arith}
+use Rattle.std.specs.Prelude.{slice_range}
 use Rattle.lower.specs.Building.{extended}
-use Rattle.lower.proofs.Building.{still_some, none_are_added, one_more_is_added}
+use Rattle.lower.specs.Lowering.{part_instrs}
+use Rattle.lower.proofs.Building.{still_some, none_is_left, one_part_less}
 use Rattle.lower.proofs.block.add_operations.Goals as goal
 
-pub loop-at-init : goal.loop-at-init
-loop-at-init c = none_are_added c.args.lifted.now.needed c.args.lifted.now.ops c.args.from c.args.blocks.now
-
-pub push_all-requires : goal.push_all-requires
-push_all-requires c = still_some _ _ _ c.loop-at.invariant c.requires.some
-
 pub loop-at-preserved : goal.loop-at-preserved
-loop-at-preserved c =
-    one_more_is_added c.args.lifted.now.needed c.args.lifted.now.ops c.args.from c.loop-at.at (operation_of c.operation-op.result) c.args.blocks.now c.loop-at.blocks c.push_all.new.blocks
-    (omega arith) (omega arith) c.operation-op.ensures.value c.loop-at.invariant
-    (c.in_ok-push_all.ensures ∙ ap (λ is. extended is c.loop-at.blocks) c.instructions.ensures)
+loop-at-preserved c = record {
+  within = c.in_ok-at.ensures.within;
+  some = still_some _ _ _ c.in_ok-at.ensures.added c.loop-at.invariant.some;
+  left = one_part_less c.args.lifted.now.needed c.args.lifted.now.ops c.loop-at.at c.in_ok-at.at c.args.to c.loop-at.blocks c.add_next.new.blocks c.in_ok-at.ensures.first c.in_ok-at.ensures.added ∙ c.loop-at.invariant.left;
+}
+
+pub returns : goal.returns
+returns c =
+    let same : c.loop-at.at ≡ c.args.to = omega arith in
+    sym (none_is_left c.args.lifted.now.needed c.args.lifted.now.ops c.args.to c.loop-at.blocks)
+    ∙ ap (λ at. extended (part_instrs c.args.lifted.now.needed (slice_range c.args.lifted.now.ops at c.args.to)) c.loop-at.blocks) (sym same)
+    ∙ c.loop-at.invariant.left

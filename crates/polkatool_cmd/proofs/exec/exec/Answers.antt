@@ -1,7 +1,6 @@
-use Rattle.std.proofs.Common.{rules, ◌≡◌, ◌≤◌, ◌^◌, length, None, sym, ap, ◌∙◌, subst, inl, inr, arith}
+use Rattle.std.proofs.Common.{rules, ◌≤◌, ◌^◌, length, sym, ap, ◌∙◌, subst, inr, arith}
 use Rattle.pvm_machine.specs.Ran.{run_with}
-use Rattle.transcript.specs.Hosts.{replying, start_host}
-use Rattle.link_core.specs.Faults.{input_of}
+use Rattle.transcript.specs.Hosts.{answering, start_host}
 use Rattle.link_core.specs.Runs.{machine_run}
 use Rattle.polkatool_cmd.specs.Answers.{HoldsExec, HasStartFault}
 use Rattle.polkatool_cmd.specs.ExecRead.{exec_in}
@@ -29,7 +28,7 @@ returns-in-Err-Bad-start-clause-comes g c =
       no_fault = replies_fault-none (length asked.input.objects) file c.in-Ok-read.replies short c.in-Ok-read.ensures.read;
       first = rw (sym c.container.ensures) (rw c.in-Err-Bad-start.field-0-is at c.in-Err-Bad-start.ensures);
     } in
-    (inr (inr (inr holds)), search rules)
+    (inr (inr (inr (rw c.in-Err-Bad-start.field-0-is holds))), search rules)
 
 pub returns-in-Ok-start-clause-comes : goal.returns-in-Ok-start-clause-comes
 returns-in-Ok-start-clause-comes g c =
@@ -40,7 +39,7 @@ returns-in-Ok-start-clause-comes g c =
     let replies = c.in-Ok-read.replies in
     let linked = c.in-Ok-link_bundle.ensures.1 in
     let short : length file ≤ 2 ^ 20 = omega (arith, ap length c.as_slice.ensures, c.in-Ok-read_replies.ensures.read.len) in
-    let holds : HoldsExec files asked (run_with replying (start_host replies) c.in-Ok-start.machine) = record {
+    let holds : HoldsExec files asked (run_with answering (start_host replies) c.in-Ok-start.machine) = record {
       linked = c.in-Ok-link_bundle.linked;
       links = record { files = c.in-Ok.bundle; objects = c.in-Ok.ensures.read; no_fault = c.in-Ok-link_bundle.ensures.0; holds = linked };
       file = file;
@@ -50,11 +49,11 @@ returns-in-Ok-start-clause-comes g c =
       are_replies = c.in-Ok-read.ensures.read;
       no_start_fault = rw (sym c.container.ensures) starts.no_fault;
       run_is =
-          ap (run_with replying (start_host replies)) starts.machine_is
-          ∙ ap (λ k. machine_run replying (start_host replies) k asked.settings.entry asked.settings.argument asked.settings.gas)
+          ap (run_with answering (start_host replies)) starts.machine_is
+          ∙ ap (λ k. machine_run answering (start_host replies) k asked.settings.entry asked.settings.argument asked.settings.gas)
           (one_container c.container.result.now c.in-Ok-link_bundle.linked.container starts.container linked.container c.container.ensures linked.spelled linked.is_linked.fits starts.is_container);
       agrees = λ within.
-          c.replies_agree.ensures (input_of c.in-Ok.bundle asked.input.wanted) linked.container linked.agrees asked.settings.entry asked.settings.argument replies within
+          linked.agrees asked.settings.entry asked.settings.argument replies within
           (argument_fits asked.settings.entry asked.settings.argument _ starts.container starts.no_fault starts.is_container) c.in-Ok-read.ensures.words;
     } in
     ExecComesTo-told asked _ c.finish.new.machine _ _ _ holds c.finish.ensures (search rules)

@@ -1,6 +1,6 @@
-use Rattle.std.proofs.Common.{rules, ◌≤◌, ◌^◌, List, ℕ, length, Option, None, sym, ap, subst, arith}
+use Rattle.std.proofs.Common.{rules, ◌≤◌, ◌^◌, length, None, sym, ap, subst, arith}
 use Rattle.pvm_machine.specs.Ran.{run_with}
-use Rattle.transcript.specs.Hosts.{replying, start_host}
+use Rattle.transcript.specs.Hosts.{answering, start_host}
 use Rattle.polkatool_cmd.specs.Answers.{HoldsRun}
 use Rattle.polkatool_cmd.specs.RunRead.{run_in}
 use Rattle.polkatool_cmd.specs.Running.{HoldsReplies}
@@ -28,7 +28,7 @@ returns-in-Ok-start-clause-comes g c =
     let replies = c.in-Ok-read.replies in
     let fits : length blob ≤ 2 ^ 27 = omega (arith, ap length c.as_slice-2.ensures, c.in-Ok.ensures.read.len) in
     let short : length file ≤ 2 ^ 20 = omega (arith, ap length c.as_slice.ensures, c.in-Ok-read_replies.ensures.read.len) in
-    let holds : HoldsRun files asked (run_with replying (start_host replies) c.in-Ok-start.machine) = record {
+    let holds : HoldsRun files asked (run_with answering (start_host replies) c.in-Ok-start.machine) = record {
       blob = blob;
       blob_held = subst (Holds files asked.blob) (sym c.as_slice-2.ensures) c.in-Ok.ensures.read.held;
       file = file;
@@ -38,6 +38,6 @@ returns-in-Ok-start-clause-comes g c =
       is_container = starts.is_container;
       replies = replies;
       are_replies = c.in-Ok-read.ensures.read;
-      run_is = ap (run_with replying (start_host replies)) starts.machine_is;
+      run_is = ap (run_with answering (start_host replies)) starts.machine_is;
     } in
     RunComesTo-told asked _ c.finish.new.machine _ _ _ holds c.finish.ensures (search rules)

@@ -12,7 +12,7 @@ returns-in-Ok c =
     record {
       container = container;
       no_fault =
-          first_start_fault-none asked.entry asked.argument c.args.file.now container (sym c.in_ok-container.ensures.exact) (sym c.unbuilt_form.ensures ∙ c.in_default.is)
+          first_start_fault-none asked.entry asked.argument c.args.file.now container (sym c.in_ok-container.ensures.exact)
           (λ more. cc (c.in-Ok.ensures.argument.1 (rw bytes more)))
           (λ none. cc (c.in-Ok.ensures.entry.1 (rw bytes none)));
       is_container = sym c.in_ok-container.ensures.exact;

@@ -1,4 +1,4 @@
--- `view_mut` lends the bytes, and the frame follows them.
+-- `view_mut` borrows the bytes, and the frame follows them.
 use mathlib.Core.Path.{◌≡◌, refl, sym, ap, subst, ◌∙◌}
 use Prim.Native.Nat.{ℕ, ◌*◌, ◌<◌, ◌^◌}
 use mathlib.Core.List.{List, [], ◌∷◌}

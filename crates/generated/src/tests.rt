@@ -1,0 +1,16 @@
+use crate::generated;
+use crate::word::{next, word_of};
+use std::alloc::AllocError;
+
+#[test]
+fn words_of_small_seeds(rt: HostRuntime) {
+    assert!(rt; word_of(next(1)) == 0x01b7_571b);
+    assert!(rt; word_of(next(0)) == 0x02f6_d7b3);
+}
+
+#[test]
+fn an_object_of_one_word(rt: HostRuntime) -> Result<(), AllocError> {
+    let bytes = generated(rt.alloc(), 1, 1)?;
+    assert!(rt; bytes.len() == 480);
+    Ok(())
+}

@@ -1,0 +1,15 @@
+pub mod Gaps
+pub mod Least
+pub mod Totals
+pub mod Counted
+pub mod Ranges
+pub mod Changed
+pub mod Copying
+pub mod Free
+pub mod Leaving
+pub mod Stay
+pub mod Own
+pub mod Programs
+pub mod Kept
+pub mod Working
+pub mod Sharing
