@@ -32,7 +32,7 @@ pub enum Binary {
     ShloL32,
     /// a shifted right by b modulo 32, with zeros from the left.
     ShloR32,
-    /// a shifted right by b modulo 32, with the sign of a from the left.
+    /// a shifted right by b modulo 32, filled from the left with copies of a's sign bit.
     SharR32,
     Add64,
     /// a less b.
@@ -50,7 +50,7 @@ pub enum Binary {
     ShloL64,
     /// a shifted right by b modulo 64, with zeros from the left.
     ShloR64,
-    /// a shifted right by b modulo 64, with the sign of a from the left.
+    /// a shifted right by b modulo 64, filled from the left with copies of a's sign bit.
     SharR64,
     And,
     Xor,

@@ -43,7 +43,7 @@ sizes_take bytes x h e =
     subst (λ (y : Sizes × List ℕ). Takes bytes (sizes_bytes y.0) y.1 × AreSizes y.0) {x = made} {y = x} (ok_is made x d.2)
     (four, record { read_only = first.1; writable = second.1; zero_pages = third.1; stack = fourth.1 })
 
--- a text is read as a number of so many bytes, whatever follows it
+-- a text is read as a number of `n` bytes, whatever follows it
 Spells : ℕ → List ℕ → ℕ → Type 0
 Spells n text x = (rest : List ℕ) → number_front n (text ++ rest) ≡ Ok (x, rest)
 
@@ -64,7 +64,7 @@ record IsLast (bytes : List ℕ) (p : Program) : Type 0 where
   fits : length (program_bytes p) < 2 ^ 32
   program : IsProgram p
 
--- a text with its length, told of an equal one
+-- the same text with its length, for an equal text
 resized : (len : ℕ) (text bytes same : List ℕ) → bytes ≡ little 4 len ++ text → len ≡ length same → text ≡ same → bytes ≡ little 4 (length same) ++ same
 resized len text bytes same e sized is = rw (← sized, ← is) e
 

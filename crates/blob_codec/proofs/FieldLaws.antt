@@ -50,7 +50,7 @@ read x = Ok x
 pub ok_is : {A : Type 0} (x y : A) → read x ≡ read y → x ≡ y
 ok_is x y e = cc
 
--- the text stands before the rest
+-- the bytes are the text and then the rest
 pub record Takes (bytes text rest : List ℕ) : Type 0 where
   pub parts : bytes ≡ text ++ rest
   pub rest_bytes : AreBytes rest
@@ -62,7 +62,7 @@ Takes-then a x b y c p q = record { parts = p.parts ∙ ap (λ (t : List ℕ). x
 pub Takes-all : (bytes text rest : List ℕ) → Takes bytes text rest → rest ≡ [] → bytes ≡ text
 Takes-all bytes text rest t nothing = t.parts ∙ ap (λ (r : List ℕ). text ++ r) nothing ∙ append-nil text
 
--- what is left is told by two texts more
+-- a text followed by a rest that is two texts
 pub Takes-two : (bytes text rest x y : List ℕ) → Takes bytes text rest → rest ≡ x ++ y → bytes ≡ text ++ x ++ y
 Takes-two bytes text rest x y t e = t.parts ∙ ap (λ (r : List ℕ). text ++ r) e ∙ sym (append_assoc text x y)
 
@@ -84,11 +84,11 @@ bytes_again text rest n e =
     let long : ltb (length (text ++ rest)) n ≡ false = le-ltb _ _ (omega (arith, length-append text rest)) in
     rw (long, take_at text rest n e, drop_at text rest n e) refl
 
--- what stands above the low bytes of a number
+-- adding a multiple of 256 keeps the low byte, and adds to the rest
 low_bytes : (low high x : ℕ) → x ≡ low + 256 * high → (x % 256 ≡ low % 256) × (x / 256 ≡ low / 256 + high)
 low_bytes low high x e = (omega arith, omega arith)
 
--- low bytes are the same, whatever stands above them
+-- low bytes are the same, whatever is above them
 pub little-above : (n low high : ℕ) → little n (low + 2 ^ (8 * n) * high) ≡ little n low
 little-above zero low high = refl
 little-above (suc n) low high =

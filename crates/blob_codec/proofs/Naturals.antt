@@ -38,7 +38,7 @@ natural_len_is P x a b c d e f g h i =
     cond_both (ltb x (2 ^ 49)) _ _ P (λ t. g (ltb-false _ _ x5) (ltb-true _ _ t)) (λ x6.
     cond_both (ltb x (2 ^ 56)) _ _ P (λ t. h (ltb-false _ _ x6) (ltb-true _ _ t)) (λ x7. i (ltb-false _ _ x7)))))))))
 
--- a first byte has the leading ones of so many bytes behind it, and a number with high bits as there fits
+-- a first byte has the leading ones of `len` bytes after it, and a number with high bits as there fits
 record Leads (first len : ℕ) : Type 0 where
   few : len ≤ 8
   ones : 2 ^ 8 - 2 ^ (8 - len) ≤ first
@@ -108,7 +108,7 @@ following_first x lt =
     (λ a b. following_7 (2 ^ 8 - 2 ^ (8 - 7) + x / 2 ^ (8 * 7)) (omega arith) (omega arith))
     (λ a. following_8 (2 ^ 8 - 2 ^ (8 - 8) + x / 2 ^ (8 * 8)) (omega arith))
 
--- a first byte and low bytes are the natural of their number, where that takes so many bytes
+-- a first byte and low bytes are the natural of their number, if that takes `len` bytes
 natural_is : (first len low : ℕ) → 2 ^ 8 - 2 ^ (8 - len) ≤ first → low < 2 ^ (8 * len) → natural_len (led_number first len low) ≡ len → natural (led_number first len low) ≡ first ∷ little len low
 unfolding natural led_number
 natural_is first len low ones lt len_is =
@@ -120,7 +120,7 @@ natural_is first len low ones lt len_is =
     let tail : little len x ≡ little len low = rw order (little-above len low bits) in
     rw (len_is, head, tail) refl
 
--- a first byte and low bytes, where their number takes so many bytes
+-- a first byte and low bytes, if their number takes `len` bytes
 number_of_parts : (first len low : ℕ) → first < 256 → len ≡ following first → low < 2 ^ (8 * len) → natural_len (led_number first len low) ≡ len
     → (natural (led_number first len low) ≡ first ∷ little len low) × (led_number first len low < 2 ^ 64)
 unfolding led_number

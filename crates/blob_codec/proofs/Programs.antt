@@ -71,7 +71,7 @@ unfolding counts_front
 counts_again counts rest h =
     rw (natural_again counts.table_len (counts.width ∷ (natural counts.code_len ++ rest)) h.table_len, width_again counts.table_len counts.width (natural counts.code_len ++ rest) h.width, natural_again counts.code_len rest h.code_len) refl
 
--- bits of a mask past so many bytes of code are zero
+-- bits of a mask past the given number of bytes of code are zero
 abbrev padding_of : List ℕ → ℕ → ℕ
 padding_of mask code_len = slice_index mask (code_len / 8) / 2 ^ (code_len % 8)
 

@@ -17,7 +17,7 @@ natural_len x =
     else (if nat_lt x (2 ^ 56) then 7
     else 8)))))))
 
--- a natural with so many bytes behind the first, which has as many leading ones and then the highest bits
+-- a natural with `len` bytes after the first, which has as many leading ones and then the highest bits
 abbrev pub natural_of : ℕ → ℕ → List ℕ
 natural_of len x = (2 ^ 8 - 2 ^ (8 - len) + x / 2 ^ (8 * len)) ∷ little len x
 

@@ -1,11 +1,11 @@
--- What programs and containers hold whose bytes are lent.
+-- What programs and containers hold whose bytes are borrowed.
 use Rattle.std.specs.Prelude.{◌≡◌, ◌+◌, ◌*◌, ◌/◌, ◌^◌, ◌<◌, ◌≤◌, length}
 use Rattle.blob_codec.specs.Grammar.{Program, Container}
 use Rattle.blob_codec.specs.Reading.{entries_of}
 use Rattle.blob_codec.specs.declared.program.Program.TheInside as program
 use Rattle.blob_codec.specs.declared.container.Container.TheInside as container
 
--- the program whose parts are lent
+-- the program whose parts are borrowed
 abbrev pub content_of : program.Inside → Program
 content_of p = record {
   table = entries_of p.table_len p.width p.entries.now;
@@ -19,7 +19,7 @@ pub record IsProgramLent (p : program.Inside) : Type 0 where
   pub entries : length p.entries.now ≡ p.table_len * p.width
   pub mask : length p.mask.now ≡ (length p.code.now + 7) / 8
 
--- the container whose parts are lent
+-- the container whose parts are borrowed
 abbrev pub held_by : container.Inside → Container
 held_by c = record {
   read_only = c.read_only.now;

@@ -22,18 +22,18 @@ abbrev pub Gives : {X Y : Type 0} → (X → Y) → Result X BlobFault → Resul
 Gives view (Ok x) reading = reading ≡ Ok (view x)
 Gives view (Err fault) reading = reading ≡ Err fault
 
--- A field is read as its value and the bytes behind it.
+-- A field is read as its value and the bytes after it.
 
 -- one byte
 abbrev pub byte_front : List ℕ → Result (ℕ × List ℕ) BlobFault
 byte_front [] = Err Truncated
 byte_front (byte ∷ rest) = Ok (byte, rest)
 
--- so many bytes
+-- n bytes
 abbrev pub bytes_front : ℕ → List ℕ → Result (List ℕ × List ℕ) BlobFault
 bytes_front n bytes = if nat_lt (length bytes) n then Err Truncated else Ok (take n bytes, drop n bytes)
 
--- a number of so many bytes, the lowest first
+-- a number of n bytes, the lowest first
 abbrev pub number_front : ℕ → List ℕ → Result (ℕ × List ℕ) BlobFault
 number_front n bytes = if nat_lt (length bytes) n then Err Truncated else Ok (number_of (take n bytes), drop n bytes)
 
@@ -50,7 +50,7 @@ following first =
     else (if nat_lt first 0xff then 7
     else 8)))))))
 
--- the number whose highest bits stand in the first byte behind so many leading ones, and whose low bytes follow
+-- the number whose highest bits are in the first byte after `len` leading ones, and whose low bytes follow
 unfoldable pub led_number : ℕ → ℕ → ℕ → ℕ
 led_number first len low = (first - (2 ^ 8 - 2 ^ (8 - len))) * 2 ^ (8 * len) + low
 
@@ -63,7 +63,7 @@ natural_front bytes = do
       then Ok (led_number first.0 (following first.0) low.0, low.1)
       else Err Overlong
 
--- how many bytes each of so many entries takes: at most eight, and none only where there is no entry
+-- how many bytes each entry of the table takes: at most eight, and none only if there is no entry
 unfoldable pub width_front : ℕ → List ℕ → Result (ℕ × List ℕ) BlobFault
 width_front table_len bytes = do
   width ← byte_front bytes
@@ -77,13 +77,13 @@ counts_front bytes = do
   code_len ← natural_front width.1
   Ok (record { table_len = table_len.0; width = width.0; code_len = code_len.0 }, code_len.1)
 
--- the mask of so many bytes of code: a bit for each, and zero bits to the end of the last byte
+-- the mask of `code_len` bytes of code: a bit for each, and zero bits to the end of the last byte
 unfoldable pub mask_front : ℕ → List ℕ → Result (List ℕ × List ℕ) BlobFault
 mask_front code_len bytes = do
   mask ← bytes_front ((code_len + 7) / 8) bytes
   if slice_index mask.0 (code_len / 8) / 2 ^ (code_len % 8) == 0 then Ok mask else Err BadPadding
 
--- so many numbers of so many bytes each, the lowest byte first
+-- n numbers of `width` bytes each, the lowest byte first
 unfoldable pub entries_of : ℕ → ℕ → List ℕ → List ℕ
 entries_of zero width bytes = []
 entries_of (suc n) width bytes = number_of (take width bytes) ∷ entries_of n width (drop width bytes)
@@ -112,7 +112,7 @@ sizes_front bytes = do
   stack ← number_front 3 zero_pages.1
   Ok (record { read_only = read_only.0; writable = writable.0; zero_pages = zero_pages.0; stack = stack.0 }, stack.1)
 
--- the program behind its length in four bytes, where nothing is left behind it
+-- the program after its length in four bytes, if nothing is left after it
 unfoldable pub last_program : List ℕ → Result Program BlobFault
 last_program bytes = do
   len ← number_front 4 bytes

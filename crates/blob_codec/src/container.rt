@@ -7,8 +7,8 @@ use crate::fields::{bytes_front, number_front};
 use crate::program::Program;
 use std::marker::Model;
 
-/// A container in its bytes, which it lends: data, the sizes of the memory, and a program (JAM Gray Paper 0.7.0,
-/// appendix A.7).
+/// A container, borrowed from its bytes: data, the sizes of the memory, and a program (JAM Gray Paper 0.7.0, appendix
+/// A.7).
 #[derive(Debug, Drop)]
 pub struct Container<'a> {
     read_only: &'a [u8],
@@ -44,11 +44,11 @@ pub struct Sizes {
 }
 
 impl<'a> Container<'a> {
-    /// The container that all of the bytes spell. It takes no memory and lends the bytes.
+    /// The container that all of the bytes spell. It takes no memory and borrows the bytes.
     ///
     /// # Errors
-    /// `Truncated` at the first field that isn't whole, then `LeftOver` for bytes behind the program, then the faults of
-    /// the program.
+    /// `Truncated` at the first field that isn't whole, then `LeftOver` for bytes after the program, then the program's
+    /// faults.
     #[tactic(auto, unfolding(crate::specs::Reading::container_of))]
     pub fn read(bytes: &'a [u8]) -> Result<Container<'a>, BlobFault>
         ensures exact { result ≡ reading.container_of bytes.now }
@@ -129,7 +129,7 @@ fn sizes_front(bytes: &[u8]) -> Result<(Sizes, &[u8]), BlobFault>
     Ok((sizes, rest))
 }
 
-/// The program behind its length, where nothing is left behind it.
+/// The program after its length, if nothing is left after it.
 #[tactic(auto, unfolding(crate::specs::Reading::last_program))]
 fn last_program(bytes: &[u8]) -> Result<Program<'_>, BlobFault>
     ensures { result ≡ reading.last_program bytes.now }

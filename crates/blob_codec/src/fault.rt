@@ -9,6 +9,6 @@ pub enum BlobFault {
     BadWidth,
     /// A bit of the mask is set past the code.
     BadPadding,
-    /// Bytes are left behind the last field.
+    /// Bytes are left after the last field.
     LeftOver,
 }

@@ -15,7 +15,7 @@ pub fn byte_front(bytes: &[u8]) -> Result<(u8, &[u8]), BlobFault>
     }
 }
 
-/// So many bytes off the front.
+/// `len` bytes off the front.
 pub fn bytes_front(bytes: &[u8], len: u64) -> Result<(&[u8], &[u8]), BlobFault>
     ensures value { reading.Gives (λ x. (x.0.now, x.1.now)) result (reading.bytes_front len bytes.now) }
     ensures whole { IfOk result (λ x. length x.0.now ≡ len) }
@@ -26,7 +26,7 @@ pub fn bytes_front(bytes: &[u8], len: u64) -> Result<(&[u8], &[u8]), BlobFault>
     Ok(bytes.split_at(len as usize))
 }
 
-/// A number of so many bytes off the front, the lowest byte first.
+/// A number of `len` bytes off the front, the lowest byte first.
 pub fn number_front(bytes: &[u8], len: u8) -> Result<(u64, &[u8]), BlobFault>
     requires { len ≤ 8 }
     ensures value { reading.Gives (λ x. (x.0, x.1.now)) result (reading.number_front len bytes.now) }
@@ -90,7 +90,7 @@ fn following(first: u8) -> u8
     }
 }
 
-/// The number whose highest bits stand in the first byte behind the leading ones, and whose low bytes follow it.
+/// The number whose highest bits are in the first byte after the leading ones, and whose low bytes follow it.
 #[tactic(auto, unfolding(crate::specs::Reading::following, crate::specs::Reading::led_number))]
 fn led_number(first: u8, low: u64) -> u64
     requires { low < 2 ^ (8 * reading.following first) }

@@ -41,7 +41,7 @@ fn put_led(first: u8, x: u64, len: u8, out: &mut Bytes8) -> Result<(), AllocErro
     put_low_bytes(x, len, out)
 }
 
-/// Appends the low bytes of a number, the lowest first.
+/// Appends the low `len` bytes of x, the lowest first.
 pub fn put_low_bytes(x: u64, len: u8, out: &mut Bytes8) -> Result<(), AllocError>
     requires { len ≤ 8 }
     ensures { OnOk result (out.new ≡ out.old ++ little len x) }

@@ -7,8 +7,8 @@ use crate::fields::{byte_front, bytes_front, little_endian, natural_front};
 use pvm_ops::Code;
 use std::marker::Model;
 
-/// A program in its bytes, which it lends: a jump table, the width of its entries, and code with its mask (JAM Gray
-/// Paper 0.7.0, appendix A.2).
+/// A program, borrowed from its bytes: a jump table, the width of its entries, and code with its mask (JAM Gray Paper
+/// 0.7.0, appendix A.2).
 #[derive(Debug, Drop)]
 pub struct Program<'a> {
     table_len: u64,
@@ -42,10 +42,10 @@ pub struct Counts {
 }
 
 impl<'a> Program<'a> {
-    /// The program that all of the bytes spell. It takes no memory and lends the bytes.
+    /// The program that all of the bytes spell. It takes no memory and borrows the bytes.
     ///
     /// # Errors
-    /// The first fault from left to right: in the count of the table, its width, the count of the code, the table, the
+    /// The first fault from left to right: in the count of the table, its width, the length of the code, the table, the
     /// code, the mask, the bits past the code, and what is left.
     #[tactic(auto, unfolding(crate::specs::Reading::program_of))]
     pub fn read(bytes: &'a [u8]) -> Result<Program<'a>, BlobFault>
@@ -102,7 +102,7 @@ impl<'a> Program<'a> {
         little_endian(&self.entries[from..from + width])
     }
 
-    /// The same program, lent once more.
+    /// The same program, borrowed again.
     pub fn lent_again(&self) -> Program<'a>
         ensures { result ≡ self.now }
     {
@@ -133,7 +133,7 @@ fn counts_front(bytes: &[u8]) -> Result<(Counts, &[u8]), BlobFault>
     Ok((counts, rest))
 }
 
-/// The width of the entries of a table of so many off the front.
+/// The width of the entries of a table of `table_len` off the front.
 #[tactic(auto, unfolding(crate::specs::Reading::width_front))]
 fn width_front(bytes: &[u8], table_len: u64) -> Result<(u8, &[u8]), BlobFault>
     ensures value { reading.Gives (λ x. (x.0, x.1.now)) result (reading.width_front table_len bytes.now) }
@@ -157,7 +157,7 @@ fn entries_front(bytes: &[u8], counts: Counts) -> Result<(&[u8], &[u8]), BlobFau
     }
 }
 
-/// The mask of so many bytes of code off the front, with no bit set past them.
+/// The mask of `code_len` bytes of code off the front, with no bit set past them.
 #[tactic(auto, unfolding(crate::specs::Reading::mask_front))]
 fn mask_front(bytes: &[u8], code_len: u64) -> Result<(&[u8], &[u8]), BlobFault>
     ensures value { reading.Gives (λ x. (x.0.now, x.1.now)) result (reading.mask_front code_len bytes.now) }

@@ -101,7 +101,7 @@ fn takes_no_natural_that_is_cut_or_overlong(rt: HostRuntime) -> Result<(), Fail>
 }
 
 #[test]
-fn tells_the_first_fault_of_a_program(rt: HostRuntime) -> Result<(), Fail> {
+fn reports_the_first_fault_of_a_program(rt: HostRuntime) -> Result<(), Fail> {
     let faulty: [(&[u8], BlobFault); 14] = [
         (b"", BlobFault::Truncated),
         (b"\x00", BlobFault::Truncated),
@@ -183,7 +183,7 @@ fn reads_a_table_and_data(rt: HostRuntime) -> Result<(), Fail> {
 }
 
 #[test]
-fn tells_the_first_fault_of_a_container(rt: HostRuntime) -> Result<(), Fail> {
+fn reports_the_first_fault_of_a_container(rt: HostRuntime) -> Result<(), Fail> {
     let mut padded = FIRST;
     padded[29] = 0x05;
     assert_eq!(rt; Container::read(&padded).err(), Some(BlobFault::BadPadding));

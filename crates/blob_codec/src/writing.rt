@@ -25,7 +25,7 @@ pub struct Parts<'a> {
 /// The bytes of a program: its jump table with the width of an entry in bytes, its code, and the mask of the code.
 ///
 /// # Errors
-/// Memory was refused.
+/// An allocation failed.
 pub fn write_program(
     alloc: Global,
     table: &[u32],
@@ -50,7 +50,7 @@ pub fn write_program(
 /// The bytes of a container.
 ///
 /// # Errors
-/// Memory was refused.
+/// An allocation failed.
 pub fn write_container(alloc: Global, parts: &Parts<'_>) -> Result<Bytes8, AllocError>
     requires read_only { length parts.now.read_only.now < 2 ^ 24 }
     requires writable { length parts.now.writable.now < 2 ^ 24 }

@@ -14,7 +14,7 @@ Adds-nil a kept = ([], Appends-nil a, append-nil kept)
 pub Adds-first : (a : Option (List ℕ)) (kept text : List ℕ) → kept ≡ text → Adds a a [] kept text
 Adds-first a kept text is = ([], Appends-nil a, sym is)
 
--- one text behind another
+-- one text after another
 pub Adds-trans : (a b c : Option (List ℕ)) (k l m x y : List ℕ) → Adds a b k l x → Adds b c l m y → Adds a c k m (x ++ y)
 Adds-trans a b c k l m x y first second = (
   first.0 ++ second.0,
@@ -22,7 +22,7 @@ Adds-trans a b c k l m x y first second = (
   sym (append_assoc k x y) ∙ ap (λ t. t ++ y) first.2 ∙ append_assoc first.0 l y ∙ ap (λ t. first.0 ++ t) second.2 ∙ sym (append_assoc first.0 second.0 m),
 )
 
--- a text that is kept behind another
+-- a text that is kept after another
 pub Adds-kept : (a b : Option (List ℕ)) (k l m x y : List ℕ) → Adds a b k l x → m ≡ l ++ y → Adds a b k m (x ++ y)
 Adds-kept a b k l m x y first is = (
   first.0,
@@ -35,7 +35,7 @@ pub Adds-more : (a b c : Option (List ℕ)) (k l m n x y z : List ℕ) → Adds 
 Adds-more a b c k l m n x y z first room is whole =
     subst (Adds a c k n) (ap (λ t. t ++ y) (append-nil x) ∙ sym whole) (Adds-kept a c k m n (x ++ []) y (Adds-trans a b c k l m x [] first room) is)
 
--- a text of which a front was put behind another
+-- a text of which a prefix was put after another
 pub Adds-front : (a b c : Option (List ℕ)) (k l x y : List ℕ) → Adds a b k l x → AppendsFront b c (l ++ y) → AppendsFront a c (k ++ (x ++ y))
 Adds-front a b c k l x y first front =
     let whole : first.0 ++ (l ++ y) ≡ k ++ (x ++ y) =
@@ -57,6 +57,6 @@ Adds-failed a b c k l x y rest z first front whole =
 pub Adds-all : (a b c : Option (List ℕ)) (l x : List ℕ) → Adds a b [] l x → Appends b c l → Appends a c x
 Adds-all a b c l x first last = subst (Appends a c) (sym first.2) (Appends-trans a b c first.0 l first.1 last)
 
--- or a front of it
+-- or a prefix of it
 pub Adds-last : (a b c : Option (List ℕ)) (l x : List ℕ) → Adds a b [] l x → AppendsFront b c l → AppendsFront a c x
 Adds-last a b c l x first front = subst (AppendsFront a c) (sym first.2) (AppendsFront-after a b c first.0 l first.1 front)

@@ -14,7 +14,7 @@ pub each_below-next : (text : ℕ → List ℕ) (n : ℕ) → each_below (n + 1)
 unfolding each_below
 each_below-next text n = rw (add-one n) refl
 
--- the texts below a number are behind those below a lesser one
+-- the texts below a number follow those below a lesser one
 pub each_below-rest : (text : ℕ → List ℕ) (n m : ℕ) → m ≤ n → (rest : List ℕ) × (each_below n text ≡ each_below m text ++ rest)
 each_below-rest text zero m le = let none : m ≡ 0 = omega arith in ([], rw none (sym (append-nil (each_below 0 text))))
 each_below-rest text (suc n) m le = elim (eq-or-lt_of_le le) [
@@ -41,6 +41,6 @@ end_of-is code at end behind within none here =
     (λ p is less. let same : p ≡ end = omega arith in rw same (here (omega arith))) in
     omega (arith, walk)
 
--- the bytes behind a place
+-- the bytes after a place
 pub hex-rest : (bytes : List ℕ) (at : ℕ) → hex bytes ≡ hex (take at bytes) ++ hex (drop at bytes)
 hex-rest bytes at = ap hex (sym (take-append-drop at bytes)) ∙ flat_map-append byte_digits (take at bytes) (drop at bytes)

@@ -11,7 +11,7 @@ byte_digits byte = digit_char (byte / 16) ∷ digit_char (byte % 16) ∷ []
 abbrev pub hex : List ℕ → List ℕ
 hex bytes = flat_map byte_digits bytes
 
--- the lowest digits of a number, so many of them, the highest first
+-- the lowest digits of a number, `count` of them, the highest first
 abbrev pub hex_digits : ℕ → ℕ → List ℕ
 hex_digits zero n = []
 hex_digits (suc count) n = hex_digits count (n / 16) ++ digit_char (n % 16) ∷ []

@@ -48,7 +48,7 @@ instruction code at =
     let op = slice_index code.bytes at in
     if is_known op then codes " " ++ name_of op ++ operands (form_of op) at (fetch_of code at).instr else codes " unknown"
 
--- the next marked position behind one, or the end of the code
+-- the next marked position after one, or the end of the code
 unfoldable pub end_of : Listing → ℕ → ℕ
 end_of code at = at + 1 + run_before (is_marked code) (at + 1) (length code.bytes - (at + 1))
 

@@ -2,6 +2,6 @@
 use Rattle.std.specs.Prelude.{◌≡◌, ℕ, List, ◌++◌, Option}
 use Rattle.std.specs.Io.KnownBytes.{Appends}
 
--- a text was added behind what was kept: a front of both was put, and the rest is kept
+-- a text was added after what was kept: a prefix of both was put, and the rest is kept
 abbrev pub Adds : Option (List ℕ) → Option (List ℕ) → List ℕ → List ℕ → List ℕ → Type 0
 Adds old new kept left text = (front : List ℕ) × Appends old new front × (kept ++ text ≡ front ++ left)

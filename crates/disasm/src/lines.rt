@@ -27,7 +27,7 @@ use pvm_ops::Code;
 /// The code has at most 2^32 bytes, so that eight digits hold a position.
 ///
 /// # Errors
-/// Where a put fails; a front of the text was put then.
+/// A put failed; a prefix of the text was put then.
 pub fn disassemble<S: Sink>(program: &Program<'_>, out: &mut S) -> Result<(), Failed>
     requires { length program.now.code.bytes ≤ 2 ^ 32 }
     ensures ok { OnOk result (Appends (S.bytes out.old) (S.bytes out.new) (disassembly program.now)) }
@@ -127,7 +127,7 @@ fn bytes_of<'a>(code: &Code<'a>, at: u64) -> &'a [u8]
     &code.bytes()[at as usize..end as usize]
 }
 
-/// The next marked position behind one, or the end of the code.
+/// The next marked position after one, or the end of the code.
 fn end_of(code: &Code<'_>, at: u64) -> u64
     requires { at < length code.now.bytes }
     ensures value { result ≡ end_of code.now at }

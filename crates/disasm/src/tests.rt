@@ -74,7 +74,7 @@ table 1 300
 #[test]
 fn puts_a_long_text_in_pieces(rt: HostRuntime) -> Result<(), Fail> {
     let rt = &rt;
-    // a thousand traps, each with a line of 17 bytes behind the first line of 26
+    // a thousand traps, each with a line of 17 bytes after the first line of 26
     let bytes = write_program(rt.alloc(), &[], 1, &[0; 1000], &[0xff; 125])?;
     let Ok(program) = Program::read(bytes.as_slice()) else {
         assert!(rt; false, "no program");

@@ -4,7 +4,7 @@ use Rattle.std.proofs.Common.{◌≡◌, inl, inr, ℕ, zero, suc, ◌+◌, ◌<
 use Rattle.std.proofs.Math.Nat.{eq-or-lt_of_le}
 use Rattle.faults.specs.First.{where_true, first_below, least_below}
 
--- nothing is found so far, nor at the next place
+-- nothing is found below n, nor at n
 pub first_below-more : {F : Type 0} (f : ℕ → Option F) (n m : ℕ) → m ≡ n + 1 → first_below n f ≡ None → f n ≡ None → first_below m f ≡ None
 first_below-more f n m e before here = rw (e, add-one, before, here) refl
 
@@ -38,6 +38,6 @@ faults_below-found test fault n i lt before here = first_below-found (λ k. wher
 pub found_fault : {F : Type 0} (test : ℕ → Bool) (fault : ℕ → F) (n i : ℕ) → i < n → first_below i (λ k. where_true (test k) (fault k)) ≡ None → test i ≡ true → Some (fault i) ≡ first_below n (λ k. where_true (test k) (fault k))
 found_fault test fault n i lt before here = sym (faults_below-found test fault n i lt before here)
 
--- the same for a loop that asks a rule and hands on its fault
+-- the same for a loop that asks a rule and returns its fault
 pub found_first : {F : Type 0} (f : ℕ → Option F) (n i : ℕ) (x : F) → i < n → first_below i f ≡ None → Some x ≡ f i → Some x ≡ first_below n f
 found_first f n i x lt before here = sym (first_below-found f n i x lt before (sym here))

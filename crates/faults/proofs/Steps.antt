@@ -44,7 +44,7 @@ pub first_in-found : {F : Type 0} (n i : ℕ) (at : ℕ → List F) (x : F) → 
 first_in-found n i at x lt before here =
     first_of n at ∙ first_below-found (λ k. first_in (at k)) n i x lt (sym (first_of i at) ∙ ap first_in before) here
 
--- none so far, nor at the next number
+-- none below n, nor at n
 pub each_below-more : {F : Type 0} (n m : ℕ) (at : ℕ → List F) → m ≡ n + 1 → each_below n at ≡ [] → at n ≡ [] → each_below m at ≡ []
 unfolding each_below
 each_below-more n m at e before here = rw (e, add-one, before, here) refl

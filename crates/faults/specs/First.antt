@@ -1,6 +1,6 @@
--- The first fault, computed as code finds it: by rules that answer Some fault where they are broken, asked one after
+-- The first fault, computed as code finds it: by rules that answer Some fault if they are broken, asked one after
 -- another, in a row or in a loop that counts up, up to the first that answers. Functions that check a part of the input
--- promise these words; that they come to the first of all faults that are present is proved in proofs/Heads.
+-- promise these; proofs/Heads shows that the result is the first of all faults that are present.
 use Rattle.std.specs.Prelude.{ℕ, zero, suc, Bool, cond, Option, Some, None}
 use Rattle.std.specs.Option.{option_or}
 

@@ -1,15 +1,15 @@
--- Which of several faults is told. Where a call checks its input by many rules and the input breaks several, the answer is
--- the first fault of a stated order. The order is stated by a list: `followed_by` puts the faults of one rule or phase
--- before those of the next, `each_below` goes through things that are checked alike, one after another. What the list holds
--- is all faults that are present; its first is the one that is told, and the input is sound where it is empty. A reader of
--- a contract needs these words alone; code that finds the first without making the list is described in `First`.
+-- Which of several faults is reported. Where a call checks its input by many rules and the input breaks several, the
+-- answer is the first fault of a stated order. A list states the order: `followed_by` puts the faults of one rule or
+-- phase before those of the next, `each_below` takes things that are checked alike, one after another. The list holds
+-- all faults that are present; its first is the one that is reported, and the input is valid if the list is empty. This
+-- is all that a reader of a contract needs; `First` describes code that finds the first without making the list.
 use Rattle.std.specs.Prelude.{ℕ, zero, suc, Bool, cond, List, [], ◌∷◌, ◌++◌, Option, Some, None}
 
 -- a rule's fault, where it is broken
 abbrev pub broken : {F : Type 0} → Bool → F → List F
 broken is fault = cond is (fault ∷ []) []
 
--- faults, and behind them later ones
+-- faults, and after them later ones
 infixr 3 ◌followed_by◌
 abbrev pub ◌followed_by◌ : {F : Type 0} → List F → List F → List F
 a followed_by b = a ++ b

@@ -1,6 +1,6 @@
-//! The theory of the first fault in a stated order: which of several faults a call tells, and how code finds it.
+//! The theory of the first fault in a stated order: which of several faults a call reports, and how code finds it.
 //!
-//! A contract states the order by the list of all faults that are present, and says that the first of them is told.
+//! A contract states the order by the list of all faults that are present, and says that the first of them is reported.
 //! Code asks rule after rule and stops at the first that is broken. The lemmas in proofs/ lead from the one to the other,
 //! and say what is known of input that has no fault.
 //!

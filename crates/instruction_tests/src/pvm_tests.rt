@@ -454,7 +454,7 @@ fn fetches_what_the_encoder_does_not_write(rt: HostRuntime) {
 }
 
 #[test]
-fn fetches_a_trap_where_nothing_stands(rt: HostRuntime) {
+fn fetches_a_trap_where_there_is_no_instruction(rt: HostRuntime) {
     let rt = &rt;
     let bytes = [0x28, 5, 0, 0, 0, 0x33, 7, 5, 0x32, 0, 2];
     let mask = [0x21, 0x05];
@@ -585,7 +585,7 @@ fn fetches_immediates_up_to_the_end_of_a_long_code(rt: HostRuntime) {
 }
 
 #[test]
-fn lends_a_code(rt: HostRuntime) {
+fn borrows_a_code(rt: HostRuntime) {
     let bytes = [0x28, 5, 0, 0, 0, 0x33, 7, 5, 0x32, 0];
     let code = Code::new(&bytes, &[0x21, 0x01]);
     assert_eq!(rt; code.len(), 10);

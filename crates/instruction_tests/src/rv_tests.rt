@@ -491,7 +491,7 @@ fn refuses_calls_and_loads_to_zero(rt: HostRuntime) {
 }
 
 #[test]
-fn tells_the_first_fault(rt: HostRuntime) {
+fn reports_the_first_fault(rt: HostRuntime) {
     // a load of no width into x0 from x4, and a load into x0 from x4
     assert_eq!(rt; decode(0x0002_7003), Err(WordFault::BadWord));
     assert_eq!(rt; decode(0x0002_0003), Err(WordFault::BadRegister));

@@ -11,7 +11,7 @@ use Rattle.machine_state.specs.Hosts.{bounds_of}
 use Rattle.machine_state.specs.Laws.{SbrkIsGood}
 use Rattle.machine_state.proofs.Registers.{registers_stay}
 
--- by no bytes it tells where the heap ends
+-- by no bytes it returns where the heap ends
 pub sbrk_none : (s : State) (at size : ℕ) → size ≡ 0 → sbrk s at size ≡ with_register s at s.heap_top
 unfolding sbrk
 sbrk_none s at size none = rw none refl

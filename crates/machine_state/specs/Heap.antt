@@ -18,8 +18,8 @@ may_end_at s top = nat_le top s.heap_bound && nat_le (map.len (with_heap s top))
 abbrev pub with_top : State → ℕ → State
 with_top s top = record s { memory = with_heap s top; heap_top = top }
 
--- `sbrk` makes the heap longer by `size` bytes. The register takes where the heap ended before, and 0 where it may not
--- grow so far.
+-- `sbrk` makes the heap longer by `size` bytes. The register is set to the end of the heap before, or to 0 if the heap
+-- may not grow by that much.
 unfoldable pub sbrk : State → ℕ → ℕ → State
 sbrk s at size =
     if nat_eq size 0 then with_register s at s.heap_top else

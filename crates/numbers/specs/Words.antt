@@ -2,11 +2,11 @@
 use Rattle.std.specs.Prelude.{ℕ, ◌+◌, ◌-◌, ◌*◌, ◌/◌, ◌%◌, ◌^◌, ℤ, pos, negsuc, nat_lt, if◌then◌else◌}
 use Rattle.std.specs.Int.{w64, cast_unsigned}
 
--- so many bits of a word, from the low one named
+-- `count` bits of a word, from the bit `low` on
 abbrev pub field : ℕ → ℕ → ℕ → ℕ
 field low count word = word / 2 ^ low % 2 ^ count
 
--- the signed number that so many bits are, as an immediate of a RISC-V word
+-- the signed number that `count` bits spell, as an immediate of a RISC-V word
 abbrev pub signed_of : ℕ → ℕ → ℤ
 signed_of count bits = if nat_lt (2 * bits) (2 ^ count) then pos bits else negsuc (2 ^ count - 1 - bits)
 

@@ -419,7 +419,7 @@ fn refuses_names_symbols_and_relocations(rt: HostRuntime) -> Result<(), Fail> {
 }
 
 #[test]
-fn tells_the_first_fault(rt: HostRuntime) -> Result<(), Fail> {
+fn reports_the_first_fault(rt: HostRuntime) -> Result<(), Fail> {
     // a table, a form, a name, a symbol and a relocation, in this order though most are in earlier sections
     let table = (field(9, NAME), 1);
     let form = (field(3, FLAGS), 2);

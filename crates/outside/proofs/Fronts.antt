@@ -7,12 +7,12 @@ use Rattle.std.proofs.KnownBytes.{Appends-trans}
 use Rattle.std.specs.Io.KnownBytes.{Appends}
 use Rattle.outside.specs.Outside.{AppendsFront}
 
--- a front of the second piece behind the first
+-- a prefix of the second piece after the first
 pub AppendsFront-after : (a b c : Option (List ℕ)) (p q : List ℕ) → Appends a b p → AppendsFront b c q → AppendsFront a c (p ++ q)
 AppendsFront-after a b c p q put front =
     (length p + front.0, subst (Appends a c) (sym (take-append-add p q front.0)) (Appends-trans a b c p (take front.0 q) put front.1))
 
--- a front of the first piece
+-- a prefix of the first piece
 pub AppendsFront-longer : (a c : Option (List ℕ)) (p q : List ℕ) → AppendsFront a c p → AppendsFront a c (p ++ q)
 AppendsFront-longer a c p q front = elim (cases_lt front.0 (length p)) [
   | inl within ↦ (front.0, subst (Appends a c) (sym (take-append-le front.0 p q (omega arith))) front.1)

@@ -80,7 +80,7 @@ found_set name (x ∷ xs) (suc at) d new within here before same q =
     ap (cond (eq_by_cmp (slice_cmp nat_cmp) q x.0) (Some x.1)) (found_set name xs at d new (omega arith) here (λ k lt. before (suc k) (omega arith)) same q)
     ∙ swapped _ _ _ _ _ (λ a b. absurd (let e : name ≡ x.0 = sym (tie q name b) ∙ tie q x.0 a in let t : is_named name x ≡ true = (bytes_eq-Decides name x.0).1 e in cc))
 
--- a position in a list that is lent is one in the list
+-- a position in a borrowed list is one in the list
 pub located : (lent files : List Entry) (name : List ℕ) (r at : Option ℕ) → lent ≡ files → r ≡ position (is_named name) lent → r ≡ at → position (is_named name) files ≡ at
 located lent files name r at same is e = ap (position (is_named name)) (sym same) ∙ sym is ∙ e
 

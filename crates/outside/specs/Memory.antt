@@ -52,16 +52,16 @@ with_slot folder name slot = record folder { slots = map.insert folder.slots nam
 abbrev pub with_content : FolderState → List ℕ → List ℕ → FolderState
 with_content folder name bytes = with_slot folder name (record { content = Some bytes; room = room_of folder name })
 
--- the folder in which a write of the name may have so many bytes; what it holds stays
+-- the folder in which a write of the name may have `len` bytes; what it holds stays
 abbrev pub with_room : FolderState → List ℕ → ℕ → FolderState
 with_room folder name len = with_slot folder name (record { content = content_of folder name; room = Some len })
 
--- so many bytes are more than the room, or there is none
+-- `len` bytes are more than the room, or there is none
 abbrev pub LacksRoom : Option ℕ → ℕ → Type 0
 LacksRoom None len = Unit {0}
 LacksRoom (Some room) len = room < len
 
--- a sink in memory: the bytes put so far, and how many more there is room for
+-- a sink in memory: the bytes that were put, and how many more there is room for
 pub record SinkState : Type 0 where
   pub bytes : List ℕ
   pub room : ℕ

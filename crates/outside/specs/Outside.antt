@@ -12,7 +12,7 @@ Files = List ℕ → Option (List ℕ)
 abbrev pub next_count : ℕ → ℕ
 next_count n = min (n + 1) (2 ^ 64 - 1)
 
--- a count of faults rose in the call, or stands at its last value after it
+-- a count of faults rose in the call, or has its last value after it
 abbrev pub Rose : ℕ → ℕ → Type 0
 Rose before now = next_count before ≤ now
 
@@ -29,13 +29,13 @@ ReadsContent content limit (Err Failed) = Unit {0}
 ReadsContent content limit (Err TooLarge) = (bytes : List ℕ) × (content ≡ Some bytes) × (limit < length bytes)
 ReadsContent content limit (Err Memory) = Unit {0}
 
--- what a read of this name may answer, where the files are told and where they aren't
+-- what a read of this name may answer, if the contents of files are known and if they aren't
 abbrev pub AnswersRead : Option Files → List ℕ → ℕ → Result (List ℕ) ReadFault → Type 0
 AnswersRead None name limit (Ok bytes) = length bytes ≤ limit
 AnswersRead None name limit (Err fault) = Unit {0}
 AnswersRead (Some files) name limit result = ReadsContent (files name) limit result
 
--- the files are told, and none has this name
+-- the contents of files are known, and no file has this name
 abbrev pub Missing : Option Files → List ℕ → Type 0
 Missing None name = ⊥
 Missing (Some files) name = files name ≡ None
@@ -46,17 +46,17 @@ pub record ReadCause {T : Type 0} (files : Option Files) (name : List ℕ) (befo
   pub failed : IsErrOf result Failed → Rose before now ⊎ Missing files name
   pub kept : (IsErrOf result Failed → ⊥) → now ≡ before
 
--- the name holds these bytes, where the files are told
+-- the name holds these bytes, if the contents of files are known
 abbrev pub AnswersWrite : Option Files → List ℕ → List ℕ → Type 0
 AnswersWrite None name bytes = Unit {0}
 AnswersWrite (Some files) name bytes = files name ≡ Some bytes
 
--- every other name holds what it held, where the files are told
+-- every other name holds what it held, if the contents of files are known
 abbrev pub KeepsOthers : List ℕ → Option Files → Option Files → Type 0
 KeepsOthers name None new = Unit {0}
 KeepsOthers name (Some old) None = ⊥
 KeepsOthers name (Some old) (Some new) = (other : List ℕ) → other ≢ name → new other ≡ old other
 
--- a front of the piece was put behind what was there, where the bytes are told
+-- a prefix of the piece was appended, if the bytes of the sink are known
 abbrev pub AppendsFront : Option (List ℕ) → Option (List ℕ) → List ℕ → Type 0
 AppendsFront old new piece = (n : ℕ) × Appends old new (take n piece)

@@ -27,7 +27,7 @@ impl Bytes {
         }
     }
 
-    /// The empty list, with memory for so many bytes.
+    /// The empty list, with memory for `len` bytes.
     pub(crate) fn with_capacity(alloc: Global, len: usize) -> Result<Bytes, AllocError>
         ensures { IfOk result (λ bytes. bytes ≡ []) }
     {
@@ -49,7 +49,7 @@ impl Bytes {
         self.items.as_slice()
     }
 
-    /// Adds a byte at the end. Where memory is refused, the list stays as it was.
+    /// Adds a byte at the end. If an allocation fails, the list stays as it was.
     pub fn push(&mut self, byte: u8) -> Result<(), AllocError>
         ensures ok { OnOk result (self.new ≡ self.old ++ byte ∷ []) }
         ensures err { OnErr result (self.new ≡ self.old) }
@@ -58,7 +58,7 @@ impl Bytes {
         Ok(())
     }
 
-    /// Adds all bytes of the piece at the end. Where memory is refused, the list stays as it was.
+    /// Adds all bytes of the piece at the end. If an allocation fails, the list stays as it was.
     pub fn append(&mut self, piece: &[u8]) -> Result<(), AllocError>
         ensures ok { OnOk result (self.new ≡ self.old ++ piece.now) }
         ensures err { OnErr result (self.new ≡ self.old) }

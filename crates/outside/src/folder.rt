@@ -11,7 +11,7 @@ pub enum ReadFault {
     Failed,
     /// The file has more bytes than the caller's limit.
     TooLarge,
-    /// Memory was refused.
+    /// An allocation failed.
     Memory,
 }
 
@@ -32,11 +32,11 @@ pub struct Failed;
 
 /// Files by name.
 ///
-/// A folder means a finite map from names to lists of bytes, where it tells one, and two counts of
+/// A folder means a finite map from names to lists of bytes, if its contents are known, and two counts of
 /// faults that never fall: one of its reads and one of its writes. Each count is kept in a `u64`,
 /// and stays at that type's last value once it is there.
 pub trait Folder {
-    /// What each name holds: nothing where it is no file. None where the folder doesn't tell.
+    /// What each name holds: nothing if it is no file. None if the contents aren't known.
     ghost files: { Self → Option Files };
 
     /// How many reads the outside has failed.

@@ -14,8 +14,8 @@ use crate::memory_file::MemoryFile;
 use std::alloc::{AllocError, Global};
 use std::marker::Model;
 
-/// A folder in memory, whose calls fail where they are told to. Reads and writes are numbered
-/// together, in the order in which they are made; no other call has a number.
+/// A folder in memory, in which calls can be made to fail. Reads and writes are numbered together, in
+/// the order in which they are made; no other call has a number.
 ///
 /// A write takes no memory: it goes into room that was made for its name before.
 #[derive(Debug, Drop)]
@@ -122,7 +122,7 @@ impl Folder for MemoryFolder {
 
     ghost write_faults = { λ f. f.write_faults };
 
-    /// Fails where the call was told to, and where the name isn't there.
+    /// Fails if the call was made to fail, and if the name isn't there.
     fn read(&mut self, alloc: Global, name: &str, limit: u32) -> Result<Bytes, ReadFault>
         ensures fails { IsErrOf result ReadFault.Failed ↔ (IsTrue (is_listed self.old.calls) ⊎ (content_of self.old name.now ≡ None)) }
         ensures answer { ReadsContent (content_of self.old name.now) limit result }
@@ -139,8 +139,8 @@ impl Folder for MemoryFolder {
         }
     }
 
-    /// Fails where the call was told to, and where the name was given no room or less than the
-    /// bytes need. Then no name changes.
+    /// Fails if the call was made to fail, and if the name was given no room or less than the bytes
+    /// need. Then no name changes.
     fn write(&mut self, name: &str, bytes: &[u8]) -> Result<(), Failed>
         ensures fails { IsErr result ↔ (IsTrue (is_listed self.old.calls) ⊎ LacksRoom (room_of self.old name.now) (length bytes.now)) }
         ensures ok { OnOk result (self.new ≡ record (with_content self.old name.now bytes.now) { calls = counted self.old.calls }) }
@@ -155,7 +155,7 @@ impl Folder for MemoryFolder {
     }
 }
 
-/// Where the first file of this name stands.
+/// The position of the first file of this name.
 fn position(files: &[MemoryFile], name: &str) -> Option<usize>
     ensures { result ≡ position (λ file. bytes_eq name.now file.0) files.now }
 {

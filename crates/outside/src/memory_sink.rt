@@ -8,7 +8,7 @@ use crate::sink::Sink;
 use std::alloc::{AllocError, Global};
 use std::marker::Model;
 
-/// A sink in memory, whose calls fail where they are told to and where the room is used up.
+/// A sink in memory, in which calls can be made to fail, and fail where the room is used up.
 #[derive(Debug, Drop)]
 pub struct MemorySink {
     bytes: Vec<u8>,
@@ -49,7 +49,7 @@ impl MemorySink {
         self.calls.fail(call)
     }
 
-    /// The bytes put so far.
+    /// The bytes that were put.
     pub fn bytes(&self) -> &[u8]
         ensures { result.now ≡ self.now.bytes }
     {
@@ -62,7 +62,7 @@ impl Sink for MemorySink {
 
     ghost faults = { λ s. s.faults };
 
-    /// Fails where the call was told to, and where the piece has more bytes than there is room left.
+    /// Fails if the call was made to fail, and if the piece has more bytes than there is room left.
     /// Then nothing is put.
     fn put(&mut self, piece: &[u8]) -> Result<(), Failed>
         ensures fails { IsErr result ↔ (IsTrue (is_listed self.old.calls) ⊎ (self.old.room < length piece.now)) }

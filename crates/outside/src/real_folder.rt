@@ -8,7 +8,7 @@ use std::fs;
 use std::fs::OpenFile;
 use std::rt::Files;
 
-/// The files of the system, by their paths. What they hold isn't told.
+/// The files of the system, by their paths. Their contents aren't known to contracts.
 #[derive(Drop)]
 pub struct RealFolder<'a, R: Files> {
     rt: &'a R,

@@ -7,7 +7,7 @@ use crate::sink::Sink;
 use crate::transfer::write_whole;
 use std::io::Write;
 
-/// A writer of the system, as a standard stream. What was put isn't told.
+/// A writer of the system, as a standard stream. Its bytes aren't known to contracts.
 ///
 /// Each piece goes to the writer at once, and nothing is flushed: a writer that keeps bytes back
 /// may lose them.

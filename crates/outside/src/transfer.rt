@@ -76,8 +76,8 @@ pub(crate) fn read_rest<R: Read>(
     Err(ReadFault::Failed)
 }
 
-/// How many bytes each call asks for, where so many are expected: one more, so that the end is met
-/// too.
+/// How many bytes each call asks for, given the number that is expected: one more, so that the end is
+/// reached too.
 fn piece_len(expected: usize) -> usize
     requires { expected ≤ 2 ^ 32 }
     ensures { 0 < result }
@@ -85,7 +85,7 @@ fn piece_len(expected: usize) -> usize
     (expected + 1).clamp(SHORTEST_READ, LONGEST_READ)
 }
 
-/// One read through `piece` onto the end of `bytes`, of as many bytes as are told.
+/// One read through `piece` onto the end of `bytes`, of at most the given number of bytes.
 fn read_onto<R: Read>(
     reader: &mut R,
     piece: &mut [u8],

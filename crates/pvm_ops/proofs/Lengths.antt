@@ -32,7 +32,7 @@ length-fields RRO l i h = omega (arith, length-little l i.x)
 length-fields RRXY l i h = omega (arith, length-append (least_bytes i.x) (least_bytes i.y), length-least_bytes i.x, length-least_bytes i.y)
 length-fields RRR l i h = omega arith
 
--- a spelling has its opcode, and no more than can be skipped behind it
+-- a spelling has its opcode, and no more bytes than can be skipped after it
 pub length-spelling : (i : Instr) (l : ℕ) → l ≤ 4 → (1 ≤ length (spelling i l)) × (length (spelling i l) ≤ 25)
 unfolding spelling
 length-spelling i l h = let few : length (fields (form_of i.op) i l) ≤ 24 = length-fields (form_of i.op) l i h in (omega arith, omega arith)

@@ -75,7 +75,7 @@ one_bit b l h = elim (cases_lt 0 b) [
   | inr none ↦ absurd (h (omega arith))
 ]
 
--- the lowest of the marks from a position on tells whether it is marked
+-- the lowest of the marks from a position on says whether it is marked
 pub first_is_marked : (code : Listing) (at marks : ℕ) → at < length code.bytes → HasMarks code at marks 25 → marks % 2 ≢ 0 → is_marked code at ≡ true
 first_is_marked code at marks inside has odd =
     let here : at + 0 ≡ at = omega arith in

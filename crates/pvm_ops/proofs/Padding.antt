@@ -1,4 +1,4 @@
--- The bits of a packed mask behind its marks are zero.
+-- The bits of a packed mask after its marks are zero.
 use Rattle.std.proofs.Common.{◌≡◌, ℕ, suc, ◌/◌, ◌%◌, ◌^◌, ◌<◌, List, [], ◌∷◌, length, Bool, true, false, refl, ◌∙◌, arith}
 use Rattle.std.specs.Prelude.{slice_index}
 use Rattle.std.proofs.Math.Nat.{pow-suc, div-eq_of_lt}
@@ -14,7 +14,7 @@ number_of_bits-lt (false ∷ bs) = omega (arith, number_of_bits-lt bs, pow-suc 2
 rest_zero : (bs : List Bool) → number_of_bits bs / 2 ^ length bs ≡ 0
 rest_zero bs = div-eq_of_lt (number_of_bits-lt bs)
 
--- what is left of the byte in which a mask of so many bits ends, or of the 0 behind it
+-- what is left of the byte in which a mask of `bits` bits ends, or of the 0 after it
 abbrev rest_at : List ℕ → ℕ → ℕ
 rest_at mask bits = slice_index mask (bits / 8) / 2 ^ (bits % 8)
 

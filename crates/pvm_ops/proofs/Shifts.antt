@@ -8,7 +8,7 @@ use Rattle.numbers.specs.Bytes.{number_of}
 use Rattle.pvm_ops.specs.Fetch.{bytes_from}
 use Rattle.pvm_ops.proofs.MaskWindow.{low-bytes_from}
 
--- the number of what is left behind some bytes
+-- the number of what is left after some bytes
 pub high-bytes_from : (bytes : List ℕ) → ((i : ℕ) → slice_index bytes i < 256) → (k at m n p : ℕ) → n ≡ k + m → p ≡ at + k → number_of (bytes_from bytes at n) / 2 ^ (8 * k) ≡ number_of (bytes_from bytes p m)
 high-bytes_from bytes fits zero at m n p e there =
     let same : n ≡ m = omega arith in
@@ -25,7 +25,7 @@ high-bytes_from bytes fits (suc k) at m (suc n) p e there =
     ∙ ap (λ x. x / 2 ^ (8 * k)) high
     ∙ high-bytes_from bytes fits k (at + 1) m n p (omega arith) (omega arith)
 
--- zeros behind the bytes count for nothing
+-- zeros after the bytes count for nothing
 pub past-bytes_from : (bytes : List ℕ) (m at n : ℕ) → length bytes ≤ at + m → m ≤ n → number_of (bytes_from bytes at n) ≡ number_of (bytes_from bytes at m)
 past-bytes_from bytes zero at zero out l = refl
 past-bytes_from bytes zero at (suc n) out l =

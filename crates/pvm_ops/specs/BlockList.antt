@@ -8,7 +8,7 @@ pub record Block : Type 0 where
   pub instrs : List Instr
   pub target : Option ℕ
 
--- blocks in the order of the code, the block of each entry in order, and the block of each place of the address map in order
+-- blocks in the order of the code, the block of each entry, and the block of each place of the address map
 pub record BlockList : Type 0 where
   pub blocks : List Block
   pub entries : List ℕ

@@ -10,7 +10,7 @@ use Rattle.pvm_ops.specs.declared.instr.Instr.{Instr}
 use Rattle.pvm_ops.specs.declared.instr.Fetched.{Fetched}
 use Rattle.pvm_ops.specs.declared.instr.Head.{Head}
 
--- so many bytes from a position on, where zeros follow the code
+-- `len` bytes from a position on, where zeros follow the code
 abbrev pub bytes_from : List ℕ → ℕ → ℕ → List ℕ
 bytes_from bytes at zero = []
 bytes_from bytes at (suc len) = slice_index bytes at ∷ bytes_from bytes (at + 1) len
@@ -23,11 +23,11 @@ low_register byte = min 12 (byte % 16)
 abbrev pub high_register : ℕ → ℕ
 high_register byte = min 12 (byte / 16)
 
--- the immediate of so many bytes at a position
+-- the immediate of `len` bytes at a position
 abbrev pub immediate : List ℕ → ℕ → ℕ → ℕ
 immediate bytes at len = sign_extend (8 * len) (number_of (bytes_from bytes at len))
 
--- the instruction that stands wherever there is no other
+-- the instruction wherever there is no other
 abbrev pub trap : Instr
 trap = record { op = 0; a = 0; b = 0; d = 0; x = 0; y = 0 }
 

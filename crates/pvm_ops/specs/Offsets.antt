@@ -4,7 +4,7 @@ use Rattle.pvm_ops.specs.declared.forms.Form.{Form}
 use Rattle.pvm_ops.specs.declared.forms.Form.TheVariants.{N, X, RE, XY, O, RX, RXY, RXO, RR, RRX, RRO, RRXY, RRR}
 use Rattle.pvm_ops.specs.declared.instr.Instr.{Instr}
 
--- the offset, which stands in x where the form has no other immediate, and else in y; 0 where the form has none
+-- the offset, which is x in a form that has no other immediate, else y; 0 if the form has none
 abbrev pub offset_of : Form → Instr → ℕ
 offset_of N i = 0
 offset_of X i = 0

@@ -21,7 +21,7 @@ least_len v =
 abbrev pub least_bytes : ℕ → List ℕ
 least_bytes v = little (least_len v) v
 
--- the bytes behind the opcode by the form of an instruction, where its offset takes so many of them
+-- the bytes after the opcode by the form of an instruction, if its offset takes `offset_len` of them
 abbrev pub fields : Form → Instr → ℕ → List ℕ
 fields N i offset_len = []
 fields X i offset_len = least_bytes i.x
@@ -37,7 +37,7 @@ fields RRO i offset_len = (i.a + 16 * i.b) ∷ little offset_len i.x
 fields RRXY i offset_len = (i.a + 16 * i.b) ∷ least_len i.x ∷ (least_bytes i.x ++ least_bytes i.y)
 fields RRR i offset_len = (i.a + 16 * i.b) ∷ i.d ∷ []
 
--- the bytes of an instruction, where its offset takes so many bytes
+-- the bytes of an instruction, if its offset takes `offset_len` bytes
 unfoldable pub spelling : Instr → ℕ → List ℕ
 spelling i offset_len = i.op ∷ fields (form_of i.op) i offset_len
 
@@ -45,7 +45,7 @@ spelling i offset_len = i.op ∷ fields (form_of i.op) i offset_len
 abbrev pub IsShort : ℕ → Type 0
 IsShort v = sign_extend 32 v ≡ v
 
--- the number is the sign extension of so many of its bytes
+-- the number is the sign extension of its low `len` bytes
 abbrev pub FitsBytes : ℕ → ℕ → Type 0
 FitsBytes len v = sign_extend (8 * len) v ≡ v
 
@@ -81,7 +81,7 @@ Fit RRO i offset_len = FitsBytes offset_len i.x
 Fit RRXY i offset_len = IsShort i.x × IsShort i.y
 Fit RRR i offset_len = Unit {0}
 
--- the instruction of a known opcode has a spelling with so many bytes for its offset
+-- the instruction of a known opcode has a spelling with `offset_len` bytes for its offset
 pub record IsEncodable (i : Instr) (offset_len : ℕ) : Type 0 where
   pub a : i.a ≤ 12
   pub b : i.b ≤ 12
@@ -90,7 +90,7 @@ pub record IsEncodable (i : Instr) (offset_len : ℕ) : Type 0 where
   pub unused : i ≡ used (form_of i.op) i
   pub fit : Fit (form_of i.op) i offset_len
 
--- these bytes stand in a list from a position on
+-- the list has these bytes from a position on
 abbrev pub Reads : List ℕ → ℕ → List ℕ → Type 0
 Reads bytes at [] = Unit {0}
 Reads bytes at (x ∷ xs) = (slice_index bytes at ≡ x) × Reads bytes (at + 1) xs

@@ -61,8 +61,8 @@ impl BasicBlock {
 /// numbers, counted from 0.
 ///
 /// A block may have a target, the block to which the offset of its last instruction leads; that instruction's own
-/// offset is 0. Beside the blocks stand the block of each entry and the block of each place of the address map. A call
-/// that is refused memory leaves the list as it was.
+/// offset is 0. The list also has the block of each entry and the block of each place of the address map. If an
+/// allocation fails, a call leaves the list as it was.
 #[derive(Debug, Drop)]
 pub struct Blocks {
     blocks: Vec<BasicBlock>,

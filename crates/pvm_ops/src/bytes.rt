@@ -3,7 +3,7 @@ ghost use Rattle.std.specs.Prelude.{◌≡◌, ◌++◌, ◌∷◌, [], length, 
 use std::alloc::{AllocError, Global};
 use std::marker::Model;
 
-/// A list of bytes that grows at its end. Where memory for more is refused, it stays as it was.
+/// A list of bytes that grows at its end. If an allocation fails, it stays as it was.
 #[derive(Debug, Drop)]
 pub struct Bytes8 {
     bytes: Vec<u8>,

@@ -10,7 +10,7 @@ use std::marker::Model;
 /// The most bytes that an instruction takes with its operands, as far as the code is walked: an opcode and 24 more.
 const REACH: u64 = 25;
 
-/// The bytes of a code with its mask, both lent: a bit for each byte, the lowest bit of a byte first, set where an
+/// The bytes of a code with its mask, both borrowed: a bit for each byte, the lowest bit of a byte first, set where an
 /// instruction starts.
 ///
 /// Positions are offsets in bytes from the start of the code. The code goes on with zeros for ever, and the mask with

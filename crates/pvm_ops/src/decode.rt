@@ -89,7 +89,7 @@ fn opcode(bytes: &[u8], at: usize, word: u64) -> u8
     byte_in(bytes, at, word, 0)
 }
 
-/// The trap that stands where there is no instruction.
+/// The trap wherever there is no instruction.
 #[tactic(auto, unfolding(crate::specs::Opcodes::is_known))]
 fn missing(at: u64) -> Fetched
     ensures value { result ≡ record { instr = trap; next = at } }
@@ -116,7 +116,7 @@ fn bare(op: u8) -> Instr
 }
 
 /// The instruction of an opcode by its form, where `e` bytes of operands follow it. The word is that of the opcode and
-/// the seven bytes behind it.
+/// the seven bytes after it.
 #[inline(always)]
 fn operands(bytes: &[u8], at: usize, word: u64, op: u8, e: u8, form: Form) -> Instr
     requires word { word ≡ number_of (bytes_from bytes.now at 8) }
@@ -228,7 +228,7 @@ fn high_register(byte: u8) -> u8
     (u32::from(byte) / 16).min(12) as u8
 }
 
-/// Two immediates behind `place` bytes: one of `len` bytes, at most four, and one of what is left of `e` bytes without
+/// Two immediates after `place` bytes: one of `len` bytes, at most four, and one of what is left of `e` bytes without
 /// `before` others.
 #[inline(always)]
 fn two(bytes: &[u8], at: usize, word: u64, place: u8, len: u32, e: u32, before: u32) -> (u64, u64)
@@ -247,7 +247,7 @@ fn two(bytes: &[u8], at: usize, word: u64, place: u8, len: u32, e: u32, before: 
     )
 }
 
-/// The immediate of the bytes that are left behind `place` bytes, of which no more than four count.
+/// The immediate of the bytes that are left after `place` bytes, of which no more than four count.
 #[inline(always)]
 fn last_in(bytes: &[u8], at: usize, word: u64, place: u8, left: u32) -> u64
     requires word { word ≡ number_of (bytes_from bytes.now at 8) }
@@ -257,7 +257,7 @@ fn last_in(bytes: &[u8], at: usize, word: u64, place: u8, left: u32) -> u64
     short_in(bytes, at, word, place, left.min(4))
 }
 
-/// The immediate of at most four bytes behind `place` bytes, extended by its sign.
+/// The immediate of at most four bytes after `place` bytes, extended by its sign.
 #[inline(always)]
 fn short_in(bytes: &[u8], at: usize, word: u64, place: u8, len: u32) -> u64
     requires word { word ≡ number_of (bytes_from bytes.now at 8) }

@@ -38,7 +38,7 @@ pub fn length(instr: &Instr, offset_len: u8) -> u32
 
 /// Appends the bytes of an instruction, its immediates in the least number of bytes and its offset in `offset_len`.
 ///
-/// `offset_len` counts for nothing in a form without an offset. Where memory is refused nothing is appended.
+/// `offset_len` counts for nothing in a form without an offset. If an allocation fails, nothing is appended.
 #[tactic(auto, unfolding(crate::specs::Spelling::spelling), using(crate::proofs::Lengths::spellings))]
 pub fn encode_into(instr: &Instr, offset_len: u8, out: &mut Bytes8) -> Result<(), AllocError>
     requires known { IsTrue (is_known instr.now.op) }
@@ -85,7 +85,7 @@ fn least_len(value: u64) -> u8
     }
 }
 
-/// Appends some bytes and then two numbers in so many bytes each, or nothing.
+/// Appends some bytes and then two numbers, each in its number of bytes, or nothing.
 fn append_with_two(
     head: &[u8],
     x: u64,
@@ -108,7 +108,7 @@ fn append_with_two(
     Ok(())
 }
 
-/// Appends some bytes and then a number in so many bytes, or nothing.
+/// Appends some bytes and then a number in `x_len` bytes, or nothing.
 fn append_with(head: &[u8], x: u64, x_len: u8, out: &mut Bytes8) -> Result<(), AllocError>
     requires { x_len ≤ 8 }
     ensures ok { OnOk result (out.new ≡ out.old ++ (head.now ++ little x_len x)) }
@@ -123,7 +123,7 @@ fn append_with(head: &[u8], x: u64, x_len: u8, out: &mut Bytes8) -> Result<(), A
     Ok(())
 }
 
-/// Appends the lowest bytes of a number, the lowest first.
+/// Appends the low `len` bytes of x, the lowest first.
 fn append_low_bytes(x: u64, len: u8, out: &mut Bytes8) -> Result<(), AllocError>
     requires { len ≤ 8 }
     ensures ok { OnOk result (out.new ≡ out.old ++ little len x) }

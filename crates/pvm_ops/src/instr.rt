@@ -1,8 +1,7 @@
 /// One instruction. Fields that the form of its opcode does not use are 0.
 ///
 /// Registers are numbers from 0 to 12. Immediates and offsets are signed numbers of 64 bits in two's complement. An
-/// offset counts from the instruction's own position, and stands in `x` where the form has no other immediate, else in
-/// `y`.
+/// offset counts from the instruction's own position. It is `x` in a form that has no other immediate, else `y`.
 #[derive(Clone, Copy, Debug, PartialEq, Eq)]
 pub struct Instr {
     pub op: u8,

@@ -1,8 +1,8 @@
-//! Instructions of the Polkadot Virtual Machine: the opcode table, the forms of operands, the instruction that stands at
-//! a position of a code, and the bytes of an instruction.
+//! Instructions of the Polkadot Virtual Machine: the opcode table, the forms of operands, fetching the instruction at a
+//! position of a code, and the bytes of an instruction.
 //!
 //! The instruction set is that of the JAM Gray Paper 0.7.0, appendix A. `specs/Opcodes.antt` has the table,
-//! `specs/Fetch.antt` what stands at a position and `specs/Spelling.antt` what an instruction is written as.
+//! `specs/Fetch.antt` how an instruction is fetched and `specs/Spelling.antt` how it is written.
 #![tactic(auto)]
 
 mod blocks;

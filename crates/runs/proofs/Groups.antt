@@ -1,5 +1,5 @@
--- Pieces that come in groups, as those of a block do: where a group begins among operations and instructions is known from
--- the groups alone.
+-- Segments that come in groups, as those of a block do: where a group begins among operations and instructions is known
+-- from the groups alone.
 use Rattle.std.proofs.Common.{◌≡◌, ℕ, zero, suc, ◌+◌, Bool, true, false, List, [], ◌∷◌, ◌++◌, length, map, refl, sym, ap, ◌∙◌, arith, length-append, append_assoc}
 use Rattle.std.proofs.lemmas.List.{map-append, length-map, append-nil}
 use Rattle.std.specs.List.{AllByRecursion}
@@ -10,7 +10,7 @@ use Rattle.runs.specs.Groups.{parts, pieces_of}
 use Rattle.runs.proofs.HasAt.{position_first}
 use Rattle.runs.proofs.Blocks.{joined_first}
 
--- a list that is cut into parts loses nothing
+-- the parts of a list have all its elements, in their order
 pub joined_parts : {A : Type 0} (ends : A → Bool) (xs : List A) → joined (parts ends xs) ≡ xs
 joined_parts ends [] = refl
 joined_parts ends (x ∷ xs) = joined_first (ends x) x (parts ends xs) ∙ ap (λ l. x ∷ l) (joined_parts ends xs)
@@ -30,7 +30,7 @@ module _ {A : Type 0} where
   joined_joined [] = refl
   joined_joined (g ∷ groups) = joined_append g (joined groups) ∙ ap (λ l. joined g ++ l) (joined_joined groups)
 
-  -- what stands behind other lists stands behind what they hold
+  -- positions after other lists count on from what these hold
   position_behind : (ws vs : List (List A)) (k : ℕ) → position (ws ++ vs) (length ws + k) ≡ length (joined ws) + position vs k
   position_behind [] vs k = let n : 0 + k ≡ k = omega arith in let m : 0 + position vs k ≡ position vs k = omega arith in rw (n, m) refl
   position_behind (w ∷ ws) vs k =
@@ -77,14 +77,14 @@ module _ {Op Instr : Type 0} (groups : List (List (Piece Op Instr))) where
   pub group_instrs : all_instrs (joined groups) ≡ joined (map all_instrs groups)
   group_instrs = grouped (λ (p : Piece Op Instr). p.instrs) groups
 
-  -- and the first piece of the k-th group begins where the group does
+  -- and the first segment of the k-th group begins where the group does
   pub group_op_place : (k : ℕ) → op_place (joined groups) (position groups k) ≡ position (map all_ops groups) k
   group_op_place k = grouped_position (λ (p : Piece Op Instr). p.ops) groups k
 
   pub group_instr_place : (k : ℕ) → instr_place (joined groups) (position groups k) ≡ position (map all_instrs groups) k
   group_instr_place k = grouped_position (λ (p : Piece Op Instr). p.instrs) groups k
 
--- the pieces of parts have their operations, and the instructions of these with those behind the last
+-- the segments of parts have their operations; their instructions are those of the parts and then the tail
 module _ {Op Instr : Type 0} (lower : List Op → List Instr) (tail : List Instr) where
   pub pieces_ops : (ps : List (List Op)) → all_ops (pieces_of lower tail ps) ≡ joined ps
   pieces_ops [] = refl
@@ -116,7 +116,7 @@ whole_one (Jump target d) = tt
 whole_one (Call number d) = refl
 whole_one (Ends f) = tt
 
--- an operation with one instruction that does the same is a piece, also where it calls the host
+-- an operation with one instruction that does the same is a segment, also where it calls the host
 pub carries_one : {Op Instr Target Data End : Type 0} (op_does : Op → Data → Outcome Target Data End) (instr_does : Instr → Data → Outcome Target Data End) (good : Data → Type 0) (op : Op) (i : Instr)
     → ((d : Data) → good d → instr_does i d ≡ op_does op d) → ((d : Data) → good d → GoodOutcome good (op_does op d))
     → Carries op_does instr_does good (record { ops = op ∷ []; instrs = i ∷ [] })
@@ -129,8 +129,8 @@ carries_one op_does instr_does good op i same stays = record {
   stays = λ d g. rw (then_none op_does (op_does op d)) (stays d g);
 }
 
--- A block that begins with a call, as the stub of a host call does: the call is a piece of its own, and what stands
--- behind it another.
+-- A block that begins with a call, as the stub of a host call does: the call is a segment, and what is after it
+-- another.
 pub call_then : {Op Instr Target Data End : Type 0} (op_does : Op → Data → Outcome Target Data End) (instr_does : Instr → Data → Outcome Target Data End) (good : Data → Type 0) (lower : List Op → List Instr) (tail : List Instr) (ends : Op → Bool)
     (op : Op) (i : Instr) (rest : List Op) → ends op ≡ true → lower (op ∷ []) ≡ i ∷ [] → parts ends rest ≡ rest ∷ []
     → ((d : Data) → good d → instr_does i d ≡ op_does op d) → ((d : Data) → good d → GoodOutcome good (op_does op d))

@@ -1,15 +1,15 @@
--- A block is a group of pieces: one, unless it calls the host, since a call ends its piece. So a piece is what stands
--- between calls, and the number of a block's first piece is its position among the groups.
+-- A block is a group of segments: one, unless it calls the host, since a call ends its segment. The number of a block's
+-- first segment is its position among the groups.
 use Rattle.std.specs.Prelude.{Bool, List, [], ◌∷◌, ◌++◌}
 use Rattle.runs.specs.Blocks.{with_first}
 use Rattle.runs.specs.Pieces.{Piece}
 
--- a list cut behind each element that ends a part
+-- a list cut after each element that ends a part
 abbrev pub parts : {A : Type 0} → (A → Bool) → List A → List (List A)
 parts ends [] = []
 parts ends (x ∷ xs) = with_first (ends x) x (parts ends xs)
 
--- the pieces of parts, each lowered as a whole, where instructions stand behind the last part alone
+-- the segments of parts, each lowered as a whole; only the last has instructions after it
 abbrev pub pieces_of : {Op Instr : Type 0} → (List Op → List Instr) → List Instr → List (List Op) → List (Piece Op Instr)
 pieces_of lower tail [] = record { ops = []; instrs = tail } ∷ []
 pieces_of lower tail (ops ∷ []) = record { ops = ops; instrs = lower ops ++ tail } ∷ []

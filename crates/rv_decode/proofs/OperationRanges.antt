@@ -18,7 +18,7 @@ register_is_reg : (n : ℕ) → IfOk (register_of n) IsReg
 unfolding register_of
 register_is_reg n = grind (arith, nat_tests)
 
--- immediates of so many bits
+-- signed immediates of 12 bits
 i_is_signed : (word : ℕ) → IsSigned 12 (i_immediate word)
 unfolding i_immediate
 i_is_signed word = grind (arith, nat_tests)
@@ -74,7 +74,7 @@ immediate_is Slliw word = omega arith
 immediate_is Srliw word = omega arith
 immediate_is Sraiw word = omega arith
 
--- what comes of a part that has a property, where each that has it comes to something good
+-- what follows from a part that has a property, if each value with the property gives something good
 then_is : {A B : Type 0} (P : A → Type 0) (Q : B → Type 0) (part : Result A WordFault) (go : A → Result B WordFault) → IfOk part P → ((a : A) → P a → IfOk (go a) Q) → IfOk (and_then part go) Q
 then_is P Q (Ok a) go p q = q a p
 then_is P Q (Err fault) go p q = tt

@@ -313,7 +313,7 @@ abbrev pub IsWritten : Reg → Type 0
 IsWritten Zero = ⊥
 IsWritten (R n) = n < 13
 
--- a signed number of so many bits
+-- a signed number of `bits` bits
 abbrev pub IsSigned : ℕ → ℤ → Type 0
 IsSigned bits (pos n) = n < 2 ^ (bits - 1)
 IsSigned bits (negsuc n) = n < 2 ^ (bits - 1)

@@ -4,7 +4,7 @@ use Rattle.std.proofs.KnownBytes.{Appends-trans}
 use Rattle.std.proofs.Math.Seq.{take-add}
 use Rattle.outside.proofs.transfer.write_whole.Goals as goal
 
--- a front, and a front of what stands behind it
+-- a prefix, and a prefix of what follows it
 take-on : (bytes : List ℕ) (done count : ℕ) → take done bytes ++ take count (take (length bytes - done) (drop done bytes)) ≡ take (done + count) bytes
 take-on bytes done count =
     ap (λ rest. take done bytes ++ take count rest) (take_all (length bytes - done) (drop done bytes) (omega (arith, length-drop done bytes)))
