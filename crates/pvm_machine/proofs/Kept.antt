@@ -1,7 +1,8 @@
 -- What no step changes, from what instructions come out as.
-use Rattle.std.proofs.Common.{◌≡◌, ◌≢◌, ℕ, zero, suc, ◌+◌, ◌≤◌, Bool, true, false, List, Option, Some, None, Result, Ok, Err, refl, ap, sym, ◌∙◌, subst, arith, inl, inr, nat_eq}
+use Rattle.std.proofs.Common.{◌≡◌, ◌≢◌, ℕ, zero, suc, ◌+◌, ◌≤◌, Bool, true, false, List, length, Option, Some, None, Result, Ok, Err, refl, ap, sym, ◌∙◌, subst, arith, inl, inr, nat_eq}
 use Rattle.std.specs.Prelude.{◌<◌, ◌-◌, if◌then◌else◌, ◌%◌, ◌^◌, nat_le}
 use Rattle.std.specs.FinMap as map
+use Rattle.std.proofs.Math.ListN.{length-set}
 use Rattle.std.proofs.lemmas.Bool.{leb-true, and_parts}
 use Rattle.std.proofs.lemmas.Bool.Decides.{nat_tests}
 use Rattle.numbers.specs.Bytes.{little}
@@ -39,6 +40,7 @@ use Rattle.pvm_machine.proofs.Steps.{begins, no_step}
 
 -- what no instruction changes of a state
 record KeepsState (old new : State) : Type 0 where
+  registers : length new.registers ≡ length old.registers
   heap_bound : new.heap_bound ≡ old.heap_bound
   frame_limit : new.frame_limit ≡ old.frame_limit
   heap_top : old.heap_top ≤ new.heap_top
@@ -51,19 +53,25 @@ abbrev IsKept : {Target : Type 0} → State → Outcome Target State End → Typ
 IsKept s (Next t) = KeepsState s t
 IsKept s (Jump target t) = KeepsState s t
 IsKept s (Call number t) = KeepsState s t
-IsKept s (Ends (Halt registers memory)) = memory ≡ s.memory
+IsKept s (Ends (Halt registers memory)) = (memory ≡ s.memory) × (length registers ≡ length s.registers)
 IsKept s (Ends (Panic memory)) = Unit {0}
 IsKept s (Ends (Fault address memory)) = Unit {0}
 IsKept s (Ends (Unanswered number memory)) = Unit {0}
 IsKept s (Ends (BadReply line address memory)) = Unit {0}
 
--- other registers
-puts_keep : (s : State) (registers : List ℕ) → KeepsState s (record s { registers = registers })
-puts_keep s registers = record { heap_bound = refl; frame_limit = refl; heap_top = omega arith; within = λ few. few; frames = λ _. refl; heap_end = λ _. refl }
+-- as many registers, with other values
+puts_keep : (s : State) (registers : List ℕ) → length registers ≡ length s.registers → KeepsState s (record s { registers = registers })
+puts_keep s registers count = record { registers = count; heap_bound = refl; frame_limit = refl; heap_top = omega arith; within = λ few. few; frames = λ _. refl; heap_end = λ _. refl }
+
+put_keeps : (s : State) (at value : ℕ) → KeepsState s (with_register s at value)
+put_keeps s at value = puts_keep s _ (length-set s.registers at value)
+
+all_keeps : (s : State) → KeepsState s s
+all_keeps s = puts_keep s s.registers refl
 
 -- another memory with as many pages
 memory_keeps : (s : State) (memory : Memory) → map.len memory ≡ map.len s.memory → KeepsState s (with_memory s memory)
-memory_keeps s memory same = record { heap_bound = refl; frame_limit = refl; heap_top = omega arith; within = λ few. omega (arith, few, same); frames = λ _. same; heap_end = λ _. refl }
+memory_keeps s memory same = record { registers = refl; heap_bound = refl; frame_limit = refl; heap_top = omega arith; within = λ few. omega (arith, few, same); frames = λ _. same; heap_end = λ _. refl }
 
 -- the heap grows only below its bound, with no more pages than there may be
 sbrk_keeps : (s : State) (at size : ℕ) → KeepsState s (sbrk s at size)
@@ -77,6 +85,7 @@ sbrk_keeps s at size = by_tests (nat_eq size 0) (may_end_at s (s.heap_top + size
         let few : map.len (with_heap s (s.heap_top + size)) ≤ s.frame_limit = leb-true _ s.frame_limit parts.1 in
         let more : size ≢ 0 = grind (arith, nat_tests, some) in
         record {
+          registers = length-set s.registers at s.heap_top;
           heap_bound = refl;
           frame_limit = refl;
           heap_top = omega arith;
@@ -86,20 +95,20 @@ sbrk_keeps s at size = by_tests (nat_eq size 0) (may_end_at s (s.heap_top + size
         }
 
     by_tests : (none may : Bool) → nat_eq size 0 ≡ none → may_end_at s (s.heap_top + size) ≡ may → KeepsState s (if none then with_register s at s.heap_top else (if may then with_register (with_top s (s.heap_top + size)) at s.heap_top else with_register s at 0))
-    by_tests true may e e' = puts_keep s _
+    by_tests true may e e' = put_keeps s at s.heap_top
     by_tests false true e e' = grown e e'
-    by_tests false false e e' = puts_keep s _
+    by_tests false false e e' = put_keeps s at 0
 
 choice : {Target : Type 0} (s : State) (b : Bool) (x y : Outcome Target State End) → IsKept s x → IsKept s y → IsKept s (if b then x else y)
 choice s true x y h h' = h
 choice s false x y h h' = h'
 
-named_keeps : (s : State) (registers : List ℕ) (target : Option ℕ) → IsKept s (to_named panic target (record s { registers = registers }))
-named_keeps s registers None = tt
-named_keeps s registers (Some target) = puts_keep s registers
+named_keeps : (s : State) (registers : List ℕ) (target : Option ℕ) → length registers ≡ length s.registers → IsKept s (to_named panic target (record s { registers = registers }))
+named_keeps s registers None count = tt
+named_keeps s registers (Some target) count = puts_keep s registers count
 
-jump_keeps : (table : List ℕ) (number : ℕ) (s : State) (registers : List ℕ) → IsKept s (jump_by halt panic table number (record s { registers = registers }))
-jump_keeps table number s registers = choice s (nat_eq number halt_address) _ _ refl (named_keeps s registers (named table number))
+jump_keeps : (table : List ℕ) (number : ℕ) (s : State) (registers : List ℕ) → length registers ≡ length s.registers → IsKept s (jump_by halt panic table number (record s { registers = registers }))
+jump_keeps table number s registers count = choice s (nat_eq number halt_address) _ _ (refl, count) (named_keeps s registers (named table number) count)
 
 refused_keeps : (access : Access) (s : State) → IsKept {Target = ℕ} s (refused access s)
 refused_keeps Low s = tt
@@ -109,7 +118,7 @@ load_keeps : (at : ℕ) (signed : Bool) (len address : ℕ) (s : State) → IsKe
 load_keeps at signed len address s = by_load (load s.memory (address % 2 ^ 32) len)
   where
     by_load : (r : Result ℕ Access) → IsKept {Target = ℕ} s (loaded_by (λ x. with_register s at x) signed len s r)
-    by_load (Ok number) = puts_keep s _
+    by_load (Ok number) = put_keeps s at _
     by_load (Err access) = refused_keeps access s
 
 module _ (keep : StoresKeepPages) where
@@ -122,29 +131,29 @@ module _ (keep : StoresKeepPages) where
 
   does_keeps : (table : List ℕ) (target : ℕ) (i : Instr) (s : State) (o : Operation) → IsKept s (does table target i s o)
   does_keeps table target i s op.Trap = tt
-  does_keeps table target i s op.Fallthrough = puts_keep s _
-  does_keeps table target i s op.Ecalli = puts_keep s _
-  does_keeps table target i s op.LoadImm64 = puts_keep s _
+  does_keeps table target i s op.Fallthrough = all_keeps s
+  does_keeps table target i s op.Ecalli = all_keeps s
+  does_keeps table target i s op.LoadImm64 = put_keeps s _ _
   does_keeps table target i s (op.StoreImm width) = store_keeps (bytes_of width) i.x i.y s
-  does_keeps table target i s op.Jump = puts_keep s _
-  does_keeps table target i s op.JumpInd = jump_keeps table ((register s i.a + i.x) % 2 ^ 32) s s.registers
-  does_keeps table target i s op.LoadImm = puts_keep s _
+  does_keeps table target i s op.Jump = all_keeps s
+  does_keeps table target i s op.JumpInd = jump_keeps table ((register s i.a + i.x) % 2 ^ 32) s s.registers refl
+  does_keeps table target i s op.LoadImm = put_keeps s _ _
   does_keeps table target i s (op.Load width extension) = load_keeps i.a (has_sign extension) (bytes_of width) i.x s
   does_keeps table target i s (op.Store width) = store_keeps (bytes_of width) i.x (register s i.a) s
   does_keeps table target i s (op.StoreImmInd width) = store_keeps (bytes_of width) (register s i.a + i.x) i.y s
-  does_keeps table target i s op.LoadImmJump = puts_keep s _
-  does_keeps table target i s (op.BranchImm condition) = choice s (holds condition (register s i.a) i.x) _ _ (puts_keep s _) (puts_keep s _)
-  does_keeps table target i s (op.Unary f) = puts_keep s _
+  does_keeps table target i s op.LoadImmJump = put_keeps s _ _
+  does_keeps table target i s (op.BranchImm condition) = choice s (holds condition (register s i.a) i.x) _ _ (all_keeps s) (all_keeps s)
+  does_keeps table target i s (op.Unary f) = put_keeps s _ _
   does_keeps table target i s op.Sbrk = sbrk_keeps s i.d (register s i.a)
   does_keeps table target i s (op.StoreInd width) = store_keeps (bytes_of width) (register s i.b + i.x) (register s i.a) s
   does_keeps table target i s (op.LoadInd width extension) = load_keeps i.a (has_sign extension) (bytes_of width) (register s i.b + i.x) s
-  does_keeps table target i s (op.Imm f) = puts_keep s _
-  does_keeps table target i s (op.ImmAlt f) = puts_keep s _
-  does_keeps table target i s (op.CmovImm condition) = puts_keep s _
-  does_keeps table target i s (op.Branch condition) = choice s (holds condition (register s i.a) (register s i.b)) _ _ (puts_keep s _) (puts_keep s _)
-  does_keeps table target i s op.LoadImmJumpInd = jump_keeps table ((register s i.b + i.y) % 2 ^ 32) s (with_register s i.a i.x).registers
-  does_keeps table target i s (op.Register f) = puts_keep s _
-  does_keeps table target i s (op.Cmov condition) = puts_keep s _
+  does_keeps table target i s (op.Imm f) = put_keeps s _ _
+  does_keeps table target i s (op.ImmAlt f) = put_keeps s _ _
+  does_keeps table target i s (op.CmovImm condition) = put_keeps s _ _
+  does_keeps table target i s (op.Branch condition) = choice s (holds condition (register s i.a) (register s i.b)) _ _ (all_keeps s) (all_keeps s)
+  does_keeps table target i s op.LoadImmJumpInd = jump_keeps table ((register s i.b + i.y) % 2 ^ 32) s (with_register s i.a i.x).registers (length-set s.registers i.a i.x)
+  does_keeps table target i s (op.Register f) = put_keeps s _ _
+  does_keeps table target i s (op.Cmov condition) = put_keeps s _ _
 
   effect_keeps : (table : List ℕ) (target : ℕ) (i : Instr) (s : State) → IsKept s (effect table target i s)
   unfolding effect
@@ -160,18 +169,18 @@ module _ (keep : StoresKeepPages) where
   at_keeps table code i s = land_keeps (is_start code) s _ (effect_keeps table (sum_64 i.at (offset_of (form_of i.instr.op) i.instr)) i.instr s)
 
   same : (m : Machine) → Keeps m m
-  same m = record { table = refl; code = refl; heap_bound = refl; frame_limit = refl; heap_top = omega arith; gas = omega arith; within = λ few. few; frames = λ _. refl; heap_end = λ _. refl }
+  same m = record { table = refl; code = refl; registers = refl; heap_bound = refl; frame_limit = refl; heap_top = omega arith; gas = omega arith; within = λ few. few; frames = λ _. refl; heap_end = λ _. refl }
 
   gone_keeps : (m : Machine) (position : ℕ) (s : State) → KeepsState m.state s → Keeps m (record m { counter = position; state = s })
-  gone_keeps m position s h = record { table = refl; code = refl; heap_bound = h.heap_bound; frame_limit = h.frame_limit; heap_top = h.heap_top; gas = omega arith; within = h.within; frames = h.frames; heap_end = h.heap_end }
+  gone_keeps m position s h = record { table = refl; code = refl; registers = h.registers; heap_bound = h.heap_bound; frame_limit = h.frame_limit; heap_top = h.heap_top; gas = omega arith; within = h.within; frames = h.frames; heap_end = h.heap_end }
 
   came_out_keeps : (m : Machine) (next : ℕ) (x : Outcome ℕ State End) → IsKept m.state x → Keeps m (came_out m next x).machine
   came_out_keeps m next (Next s) h = gone_keeps m next s h
   came_out_keeps m next (Jump target s) h = gone_keeps m target s h
   came_out_keeps m next (Call number s) h = gone_keeps m next s h
   came_out_keeps m next (Ends (Halt registers memory)) h =
-      let pages : map.len memory ≡ map.len m.state.memory = ap map.len h in
-      record { table = refl; code = refl; heap_bound = refl; frame_limit = refl; heap_top = omega arith; gas = omega arith; within = λ few. omega (arith, few, pages); frames = λ _. pages; heap_end = λ _. refl }
+      let pages : map.len memory ≡ map.len m.state.memory = ap map.len h.0 in
+      record { table = refl; code = refl; registers = h.1; heap_bound = refl; frame_limit = refl; heap_top = omega arith; gas = omega arith; within = λ few. omega (arith, few, pages); frames = λ _. pages; heap_end = λ _. refl }
   came_out_keeps m next (Ends (Panic memory)) h = same m
   came_out_keeps m next (Ends (Fault address memory)) h = same m
   came_out_keeps m next (Ends (Unanswered number memory)) h = same m
@@ -182,7 +191,7 @@ module _ (keep : StoresKeepPages) where
   begun_keeps m (Some f) = came_out_keeps m f.next _ (at_keeps m.table m.code f.instr m.state)
 
   paid_keeps : (m n : Machine) (k : ℕ) → k ≤ m.gas → Keeps (record m { gas = k }) n → Keeps m n
-  paid_keeps m n k less h = record { table = h.table; code = h.code; heap_bound = h.heap_bound; frame_limit = h.frame_limit; heap_top = h.heap_top; gas = omega (arith, less, h.gas); within = h.within; frames = h.frames; heap_end = h.heap_end }
+  paid_keeps m n k less h = record { table = h.table; code = h.code; registers = h.registers; heap_bound = h.heap_bound; frame_limit = h.frame_limit; heap_top = h.heap_top; gas = omega (arith, less, h.gas); within = h.within; frames = h.frames; heap_end = h.heap_end }
 
   stepped_keeps : (m : Machine) → Keeps m (stepped m).machine
   stepped_keeps m = by_gas m.gas refl

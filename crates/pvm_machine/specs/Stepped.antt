@@ -1,12 +1,11 @@
 -- What steps under gas leave and answer (JAM Gray Paper 0.7.0, appendix A).
-use Rattle.std.specs.Prelude.{◌≡◌, ℕ, zero, suc, ◌+◌, ◌-◌, ◌<◌, ◌≤◌, ◌==◌, true, if◌then◌else◌, Option, Some, None, slice_index}
+use Rattle.std.specs.Prelude.{◌≡◌, ℕ, zero, suc, ◌+◌, ◌-◌, ◌<◌, ◌≤◌, ◌==◌, true, if◌then◌else◌, length, Option, Some, None}
 use Rattle.std.specs.FinMap as map
 use Rattle.runs.specs.Machine.{Outcome, Next, Jump, Call, Ends}
 use Rattle.runs.specs.Laid.{Fetched}
 use Rattle.machine_state.specs.State.{State}
 use Rattle.machine_state.specs.Ends.{End, Halt, Panic, Fault, Unanswered, BadReply}
 use Rattle.machine_state.specs.Start.{pages_of}
-use Rattle.pvm_ops.specs.Listing.{Listing, is_marked}
 use Rattle.pvm_machine.specs.Machine.{Machine}
 use Rattle.pvm_machine.specs.Step.{Standing, does_at, instr_at}
 use Rattle.pvm_machine.specs.declared.answers.Step.{Step}
@@ -100,23 +99,13 @@ Costs answer.OutOfGas old new = (old ≡ 0) × (new ≡ 0)
 Costs (answer.Host number) old new = old ≡ new + 1
 Costs answer.Memory old new = old ≡ new
 
--- an instruction that calls the host is marked at a position of the code
-pub record HasCall (code : Listing) : Type 0 where
-  pub at : ℕ
-  pub marked : is_marked code at ≡ true
-  pub call : slice_index code.bytes at ≡ 10
-
--- only code with such an instruction calls the host
-abbrev pub CallsFrom : Listing → Step → Type 0
-CallsFrom code (answer.Host number) = HasCall code
-CallsFrom code how = Unit {0}
-
--- What no step changes: the program, how far the heap may grow, and how many pages the memory may have. The heap's end
--- only rises, and the gas only falls. The memory has no more pages than it may, if it had no more before. Without a heap,
+-- What no step changes: the program, how many registers there are, how far the heap may grow, and how many pages the memory
+-- may have. The heap's end only rises, and the gas only falls. The memory has no more pages than it may, if it had no more before. Without a heap,
 -- the heap's end and the number of pages stay.
 pub record Keeps (old new : Machine) : Type 0 where
   pub table : new.table ≡ old.table
   pub code : new.code ≡ old.code
+  pub registers : length new.state.registers ≡ length old.state.registers
   pub heap_bound : new.state.heap_bound ≡ old.state.heap_bound
   pub frame_limit : new.state.frame_limit ≡ old.state.frame_limit
   pub heap_top : old.state.heap_top ≤ new.state.heap_top
