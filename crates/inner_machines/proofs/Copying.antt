@@ -1,22 +1,14 @@
 -- Bytes that are copied from one memory into another.
-use Rattle.std.proofs.Common.{◌≡◌, ℕ, ◌+◌, ◌%◌, ◌^◌, ◌<◌, ◌≤◌, Bool, true, false, List, ◌++◌, length, take, drop, refl, ap, sym, ◌∙◌, arith, inl, inr}
+use Rattle.std.proofs.Common.{◌≡◌, ℕ, ◌+◌, ◌%◌, ◌^◌, ◌<◌, ◌≤◌, Bool, true, false, List, ◌++◌, length, take, drop, refl, ap, sym, ◌∙◌, arith}
 use Rattle.std.specs.Prelude.{Option, Some, None, nat_le, nat_eq}
 use Rattle.std.proofs.lemmas.Bool.Decides.{nat_tests}
 use Rattle.machine_state.specs.Memory as model
 use Rattle.machine_state.specs.Output.{page_at}
 use Rattle.page_memory.specs.Access.{page_allows, least_refused, touched, with_bytes, stored}
-use Rattle.std.specs.FinMap as map
-use Rattle.std.proofs.lemmas.Bool.{cases_lt}
-use Rattle.page_memory.specs.Pages.{HasAddresses}
-use Rattle.page_memory.specs.Ranges.{is_barred, IsLeastBarred, lent, lent_in}
+use Rattle.page_memory.specs.Ranges.{lent, lent_in}
 use Rattle.page_memory.proofs.Parts.{touched-split, stored-split, allowed_at, modes_stay}
 use Rattle.page_memory.proofs.Steps.{length-touched}
 use Rattle.page_memory.proofs.Within.{allowed_within}
-use Rattle.page_memory.proofs.Allowed.{allowed_ends, allowed_free}
-use Rattle.inner_machines.specs.Copies.{IsFree}
-
-pub free_none : (m : model.Memory) (writing : Bool) (at len : ℕ) → IsLeastBarred m writing at len None → IsFree m writing at len
-free_none m writing at len free some = let ends = allowed_ends m writing at len some free in (ends, allowed_free m writing at len ends free)
 
 not_lent : (o : Option model.Page) (at len : ℕ) → at % 4096 + len ≤ 4096 → page_allows false o ≡ true → lent_in o (at % 4096) len ≡ None → ⊥
 not_lent None at len within allows none = cc
@@ -60,15 +52,3 @@ next_allows m writing at done len next below less is next_below free =
 
 pub still_allows : (m self : model.Memory) (into next : ℕ) (bytes : List ℕ) → self ≡ with_bytes m into bytes → page_allows true (page_at m next) ≡ true → page_allows true (page_at self next) ≡ true
 still_allows m self into next bytes is allows = ap (λ (s : model.Memory). page_allows true (page_at s next)) is ∙ modes_stay bytes into next m true ∙ allows
-
--- no free range is as large as the addresses: no page holds one below 2^16
-pub less_than_all : (m : model.Memory) (writing : Bool) (at len : ℕ) → HasAddresses m → IsLeastBarred m writing at len None → len < 2 ^ 32
-less_than_all m writing at len has free = elim (cases_lt len (2 ^ 32)) [
-  | inl less ↦ less
-  | inr not_less ↦
-      let ends = allowed_ends m writing at len (omega (arith, not_less)) free in
-      let none : map.get m 0 ≡ None = has 0 refl in
-      let barred : is_barred m writing 0 ≡ true = rw none refl in
-      let allowed : is_barred m writing 0 ≡ false = free 0 (omega (arith, ends, not_less)) (omega (arith, not_less)) in
-      absurd cc
-]

@@ -2,7 +2,7 @@
 use Rattle.std.proofs.Common.{◌≡◌, ◌≢◌, ℕ, zero, suc, ◌+◌, ◌-◌, ◌<◌, ◌≤◌, Bool, true, false, List, [], ◌∷◌, length, refl, ap, sym, ◌∙◌, subst, arith, nat_eq, inl, inr, slice_set}
 use Rattle.std.specs.Prelude.{Option, Some, None, Result, Ok, Err, is_some, ◌&&◌, ◌^◌, nat_lt, nat_le, if◌then◌else◌}
 use Rattle.std.specs.FinMap as map
-use Rattle.std.proofs.lemmas.Bool.{cases_eq, cases_lt}
+use Rattle.std.proofs.lemmas.Bool.{cases_eq}
 use Rattle.std.proofs.lemmas.Bool.Decides.{nat_tests}
 use Rattle.runs.specs.World.{World}
 use Rattle.machine_state.specs.Memory.{Memory, no_memory}
@@ -27,7 +27,7 @@ use Rattle.inner_machines.specs.Calls.{answers, panics, nested, placed, place_fo
 use Rattle.inner_machines.specs.Views.{with_slot}
 use Rattle.inner_machines.specs.CallRules.{IsInner, InnersFit, CallsAnswerWell, IsOrPanics, CallsPanic}
 use Rattle.inner_machines.proofs.Gaps.{get_here, get_other, same_some}
-use Rattle.inner_machines.proofs.Totals.{total_slot, total_past}
+use Rattle.inner_machines.proofs.Counted.{pages_in, no_more, at_least}
 use Rattle.inner_machines.proofs.Least.{Free, least_free_is}
 use Rattle.inner_machines.proofs.Ranges.{fewer_pages}
 use Rattle.inner_machines.proofs.Programs.{code_within}
@@ -36,16 +36,6 @@ use Rattle.inner_machines.proofs.Programs.{code_within}
 record AreInners (inners : Inners) : Type 0 where
   pub each : (number : ℕ) (inner : Inner) → map.get inners number ≡ Some inner → IsInner inner
   pub few : frames inners ≤ most_frames
-
-abbrev pages_in : Option Inner → ℕ
-pages_in slot = counted (λ inner. map.len inner.memory) slot
-
--- where a slot is changed, the pages are no more than with those of the new machine, less those of the one before
-more_pages : (inners : Inners) (k : ℕ) (slot : Option Inner) → pages_in slot ≤ pages_in (map.get inners k) → frames (with_slot inners k slot) ≤ frames inners
-more_pages inners k slot few = elim (cases_lt k most_machines) [
-  | inl less ↦ omega (arith, total_slot (λ inner. map.len inner.memory) most_machines k inners slot less, few)
-  | inr past ↦ omega (arith, total_past (λ inner. map.len inner.memory) most_machines k inners slot (omega (arith, past)))
-]
 
 -- each stays an inner machine where the changed one is
 each_stays : (inners : Inners) (k : ℕ) (slot : Option Inner) → AreInners inners → ((inner : Inner) → slot ≡ Some inner → IsInner inner) → (q : ℕ) (inner : Inner) → map.get (with_slot inners k slot) q ≡ Some inner → IsInner inner
@@ -56,12 +46,11 @@ each_stays inners k slot are new q inner got = elim (cases_eq q k) [
 
 -- the machines with one changed, which brings no page
 slot_stays : (inners : Inners) (k : ℕ) (slot : Option Inner) → AreInners inners → ((inner : Inner) → slot ≡ Some inner → IsInner inner) → pages_in slot ≤ pages_in (map.get inners k) → AreInners (with_slot inners k slot)
-slot_stays inners k slot are new few = record { each = each_stays inners k slot are new; few = omega (arith, more_pages inners k slot few, are.few) }
+slot_stays inners k slot are new few = record { each = each_stays inners k slot are new; few = omega (arith, no_more inners k slot few, are.few) }
 
 one_stays : (inners : Inners) (k : ℕ) (old new : Inner) → AreInners inners → map.get inners k ≡ Some old → IsInner new → map.len new.memory ≤ map.len old.memory → AreInners (map.insert inners k new)
 one_stays inners k old new are got is few =
-    let IsFew : Option Inner → Type 0 = λ slot. map.len new.memory ≤ pages_in slot in
-    slot_stays inners k (Some new) are (λ inner e. subst IsInner (same_some new inner e) is) (subst IsFew (sym got) few)
+    slot_stays inners k (Some new) are (λ inner e. subst IsInner (same_some new inner e) is) (at_least inners k old _ got few)
 
 module _ (within : StepsStayWithin) (s : State) (is : IsState s) (inners : Inners) (are : AreInners inners) where
   abbrev Good : Answer Inners → Type 0

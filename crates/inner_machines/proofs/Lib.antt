@@ -13,3 +13,5 @@ pub mod Programs
 pub mod Kept
 pub mod Working
 pub mod Sharing
+pub mod Written
+pub mod Outer

@@ -1,8 +1,7 @@
 -- Calls keep that all machines of a run share their pages.
-use Rattle.std.proofs.Common.{◌≡◌, ℕ, ◌+◌, ◌<◌, ◌≤◌, Bool, true, false, List, [], ◌∷◌, length, refl, ap, sym, ◌∙◌, subst, arith, nat_eq, inl, inr}
+use Rattle.std.proofs.Common.{◌≡◌, ℕ, ◌+◌, ◌<◌, ◌≤◌, Bool, true, false, List, [], ◌∷◌, length, refl, ap, sym, ◌∙◌, arith, nat_eq}
 use Rattle.std.specs.Prelude.{Option, Some, None, Result, Ok, Err, ◌&&◌, nat_lt, if◌then◌else◌}
 use Rattle.std.specs.FinMap as map
-use Rattle.std.proofs.lemmas.Bool.{cases_lt}
 use Rattle.std.proofs.lemmas.Bool.Decides.{nat_tests}
 use Rattle.runs.specs.World.{World}
 use Rattle.machine_state.specs.Memory.{no_memory}
@@ -20,25 +19,11 @@ use Rattle.blob_codec.specs.declared.fault.BlobFault.{BlobFault}
 use Rattle.blob_codec.specs.Grammar.{Program}
 use Rattle.blob_codec.specs.Reading.{program_of}
 use Rattle.inner_machines.specs.Inner.{Inner, Inners, most_machines, most_frames, counted, frames, least_free}
-use Rattle.inner_machines.specs.Views.{with_slot}
 use Rattle.inner_machines.specs.Calls.{answers, panics, placed, made, peeked, poked, changed, paged, invoked, expunged, machine_call, peek_call, poke_call, pages_call, invoke_call, expunge_call, nest_call, new_inner, place_for, page_after, change_pages, is_mapping, means_pages, with_changed_pages, word_at, words_at, with_words, worked, full, ok, oob, huh, who}
 use Rattle.inner_machines.specs.Laws.{SharesPages, CallsSharePages, WorkIsPaid}
-use Rattle.inner_machines.proofs.Totals.{total_slot, total_past}
+use Rattle.inner_machines.proofs.Counted.{no_more, at_least}
 use Rattle.inner_machines.proofs.Ranges.{fewer_pages}
 use Rattle.inner_machines.proofs.Working.{inner_works}
-
-abbrev pages_in : Option Inner → ℕ
-pages_in slot = counted (λ inner. map.len inner.memory) slot
-
--- with no more pages in a slot there are no more in all
-no_more : (inners : Inners) (k : ℕ) (slot : Option Inner) → pages_in slot ≤ pages_in (map.get inners k) → frames (with_slot inners k slot) ≤ frames inners
-no_more inners k slot few = elim (cases_lt k most_machines) [
-  | inl less ↦ omega (arith, total_slot (λ inner. map.len inner.memory) most_machines k inners slot less, few)
-  | inr past ↦ omega (arith, total_past (λ inner. map.len inner.memory) most_machines k inners slot (omega (arith, past)))
-]
-
-at_least : (inners : Inners) (k : ℕ) (old : Inner) (len : ℕ) → map.get inners k ≡ Some old → len ≤ map.len old.memory → len ≤ pages_in (map.get inners k)
-at_least inners k old len got few = subst (λ (o : Option Inner). len ≤ pages_in o) (sym got) few
 
 -- words are stored as bytes
 len-with_words : (words : List ℕ) (memory : model.Memory) (at : ℕ) → map.len (with_words memory at words) ≡ map.len memory

@@ -1,5 +1,5 @@
--- An inner machine that works keeps the number of its pages, and spends of the gas that it was given.
-use Rattle.std.proofs.Common.{◌≡◌, ◌≢◌, ℕ, zero, suc, ◌+◌, ◌≤◌, List, Option, Some, None, refl, ap, sym, ◌∙◌, subst, arith}
+-- An inner machine that works keeps the number of its pages and registers, and spends of the gas that it was given.
+use Rattle.std.proofs.Common.{◌≡◌, ◌≢◌, ℕ, zero, suc, ◌+◌, ◌≤◌, List, length, Option, Some, None, refl, ap, sym, ◌∙◌, subst, arith}
 use Rattle.std.specs.FinMap as map
 use Rattle.runs.specs.Machine.{Outcome, Next, Jump, Call, Ends}
 use Rattle.runs.specs.Laid.{Fetched}
@@ -61,17 +61,18 @@ module _ (keep : StoresKeepPages) where
   -- what steps without a heap keep
   pub record Works (m n : Machine) : Type 0 where
     pub gas : n.gas ≤ m.gas
+    pub registers : length n.state.registers ≡ length m.state.registers
     pub pages : map.len n.state.memory ≡ map.len m.state.memory
     pub heap : n.state.heap_bound ≡ 0
 
   one_works : (m : Machine) → m.state.heap_bound ≡ 0 → Works m (stepped m).machine
-  one_works m none = let k = stepped_keeps m in record { gas = k.gas; pages = k.frames none; heap = k.heap_bound ∙ none }
+  one_works m none = let k = stepped_keeps m in record { gas = k.gas; registers = k.registers; pages = k.frames none; heap = k.heap_bound ∙ none }
 
   none_works : (m : Machine) → m.state.heap_bound ≡ 0 → Works m m
-  none_works m none = record { gas = omega arith; pages = refl; heap = none }
+  none_works m none = record { gas = omega arith; registers = refl; pages = refl; heap = none }
 
   then_works : (m n l : Machine) → Works m n → Works n l → Works m l
-  then_works m n l first more = record { gas = omega (arith, first.gas, more.gas); pages = more.pages ∙ first.pages; heap = more.heap }
+  then_works m n l first more = record { gas = omega (arith, first.gas, more.gas); registers = more.registers ∙ first.registers; pages = more.pages ∙ first.pages; heap = more.heap }
 
   -- more steps, where the first goes on
   goes_on : (more : Machine → Stepped) (m : Machine) → m.state.heap_bound ≡ 0 → Works m (more m).machine → (how : Step) → Works m (go_on more m how).machine

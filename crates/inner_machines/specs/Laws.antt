@@ -6,7 +6,9 @@ use Rattle.runs.specs.World.{World}
 use Rattle.machine_state.specs.State.{State, register}
 use Rattle.machine_state.specs.Ends.{Answer, Answered, Ended}
 use Rattle.machine_state.specs.Hosts.{GoodAnswer}
-use Rattle.page_memory.specs.Access.{touched}
+use Rattle.machine_state.specs.Memory.{Memory}
+use Rattle.machine_state.specs.Output.{page_at}
+use Rattle.page_memory.specs.Access.{page_allows, touched, byte_of}
 use Rattle.inner_machines.specs.Inner.{Inner, Inners, no_inners, most_machines, most_frames, frames, least_free}
 use Rattle.inner_machines.specs.Calls.{full, new_inner, worked, nest_call}
 
@@ -32,6 +34,36 @@ IsLeastFree inners (Some n) = (n < most_machines) × (map.get inners n ≡ None)
 
 abbrev pub LeastIsFree : Type 0
 LeastIsFree = (inners : Inners) → IsLeastFree inners (least_free inners)
+
+-- What changes of the machine that calls.
+
+-- no page comes, goes or changes its mode, and each byte outside a range is as before
+pub record BytesStay (at len : ℕ) (old new : Memory) : Type 0 where
+  pub modes : (writing : Bool) (address : ℕ) → page_allows writing (page_at new address) ≡ page_allows writing (page_at old address)
+  pub bytes : (address : ℕ) → (address < at) ⊎ (at + len ≤ address) → byte_of new address ≡ byte_of old address
+
+-- how many bytes a call may write, from the address in register 8 on: `peek` as many as register 10 says, `invoke` 112,
+-- and any other none
+abbrev pub written_by : ℕ → State → ℕ
+written_by number s = if nat_eq number 9 then register s 10 else (if nat_eq number 12 then 112 else 0)
+
+-- what each call keeps of the state of the machine that calls: but for registers 7 and 8, the bytes that the call may write
+-- and the number of pages that its memory may have, all is as before. Register 8 is changed by `invoke` alone.
+pub record KeepsState (number : ℕ) (old new : State) : Type 0 where
+  pub registers : (at : ℕ) → at ≢ 7 → at ≢ 8 → register new at ≡ register old at
+  pub eighth : number ≢ 12 → register new 8 ≡ register old 8
+  pub memory : BytesStay (register old 8) (written_by number old) old.memory new.memory
+  pub heap_top : new.heap_top ≡ old.heap_top
+  pub heap_bound : new.heap_bound ≡ old.heap_bound
+
+-- the answer of a call keeps this, and only `invoke` spends gas
+abbrev pub KeepsOuter : ℕ → State → Answer Inners → Type 0
+KeepsOuter number s (Answered spent rest next) = KeepsState number s next.state × (number ≢ 12 → (spent ≡ 0) × (rest ≡ 0))
+KeepsOuter number s (Ended end) = Unit {0}
+
+-- so do all calls
+abbrev pub OuterStays : Type 0
+OuterStays = (number : ℕ) (w : World State Inners) → KeepsOuter number w.state (nest_call number w)
 
 -- What all machines of a run share.
 

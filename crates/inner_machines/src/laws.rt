@@ -1,11 +1,20 @@
-ghost use Rattle.inner_machines.specs.Laws.{CallsSharePages, LeastIsFree, OthersStay, OwnCallsDecide, WorkIsPaid};
+ghost use Rattle.inner_machines.specs.Laws.{CallsSharePages, LeastIsFree, OthersStay, OuterStays, OwnCallsDecide, WorkIsPaid};
 
-use page_memory::stores_keep_pages;
+use page_memory::{ranges_are_allowed, stores_keep_pages};
 
 /// A call changes the inner machine of its own number alone. It does nothing.
 pub fn others_stay()
     ensures { OthersStay }
 {}
+
+/// Of the machine that calls, a call changes register 7, by `peek` and `invoke` the bytes of their ranges, by `invoke`
+/// register 8 and the gas, and how many pages its memory may have. All else of it is as before. It does nothing.
+pub fn outer_stays()
+    ensures { OuterStays }
+{
+    stores_keep_pages();
+    ranges_are_allowed();
+}
 
 /// The number that a new machine takes is the least that no machine has. It does nothing.
 pub fn least_is_free()

@@ -15,6 +15,8 @@ mod slots;
 mod words;
 
 pub use answer::Served;
-pub use laws::{calls_share_pages, least_is_free, others_stay, own_calls_decide, work_is_paid};
+pub use laws::{
+    calls_share_pages, least_is_free, others_stay, outer_stays, own_calls_decide, work_is_paid,
+};
 pub use nest::Nest;
 pub use rules::{calls_answer_well, calls_panic};

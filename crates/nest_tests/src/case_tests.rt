@@ -1,7 +1,5 @@
-use crate::outer::{FULL, HUH, OK, OOB, OUTER, STACK, STORES, WHO, WORDS, call};
-use blob_codec::Container;
-use inner_machines::{Nest, Served};
-use pvm_machine::Machine;
+use crate::outer::{Caller, EMPTY, FULL, HUH, OK, OOB, STACK, STORES, WHO, WORDS};
+use inner_machines::Served;
 use std::test::*;
 
 /// an address without a page in the machine that calls
@@ -54,19 +52,10 @@ const CASES: [(u64, [u64; 4], Served, u64, u64); 35] = [
 
 #[test]
 fn each_case_of_each_call(rt: HostRuntime) -> Result<(), Fail> {
-    let container = Container::read(&OUTER)?;
-    let mut outer = Machine::start(rt.alloc(), &container, 0, &[], 1000)?;
-    let mut nest = Nest::new(rt.alloc());
-    assert_eq!(rt; outer.memory_mut().copy_in(0xfefd_0000, &STORES), Ok(()));
-    assert_eq!(rt;
-        call(&mut nest, &mut outer, 8, [STACK, 10, 0, 0]),
-        (Served::Done, 0, 10)
-    );
+    let mut caller = Caller::with(rt.alloc(), &STORES)?;
+    assert_eq!(rt; caller.call(8, [STACK, 10, 0, 0]), (Served::Done, 0, 10));
     for (number, arguments, served, seventh, eighth) in CASES {
-        assert_eq!(rt;
-            call(&mut nest, &mut outer, number, arguments),
-            (served, seventh, eighth)
-        );
+        assert_eq!(rt; caller.call(number, arguments), (served, seventh, eighth));
     }
     Ok(())
 }
@@ -92,27 +81,25 @@ const ENDS: [([u8; 10], u64, u64, u64); 5] = [
 
 #[test]
 fn how_an_inner_machine_stops_is_told(rt: HostRuntime) -> Result<(), Fail> {
-    let container = Container::read(&OUTER)?;
-    let mut outer = Machine::start(rt.alloc(), &container, 0, &[], 1000)?;
-    let mut nest = Nest::new(rt.alloc());
+    let mut caller = Caller::with(rt.alloc(), &EMPTY)?;
     for (program, len, seventh, eighth) in ENDS {
-        assert_eq!(rt; outer.memory_mut().copy_in(0xfefd_0000, &program), Ok(()));
         assert_eq!(rt;
-            call(&mut nest, &mut outer, 8, [STACK, len, 0, 0]),
-            (Served::Done, 0, len)
+            caller.outer.memory_mut().copy_in(0xfefd_0000, &program),
+            Ok(())
         );
-        assert_eq!(rt; outer.memory_mut().write64(0xfefd_0200, 10), Ok(()));
+        assert_eq!(rt; caller.call(8, [STACK, len, 0, 0]), (Served::Done, 0, len));
+        assert_eq!(rt; caller.outer.memory_mut().write64(0xfefd_0200, 10), Ok(()));
         // register 0 is where a jump halts
         assert_eq!(rt;
-            outer.memory_mut().write64(0xfefd_0208, 0xffff_0000),
+            caller.outer.memory_mut().write64(0xfefd_0208, 0xffff_0000),
             Ok(())
         );
         assert_eq!(rt;
-            call(&mut nest, &mut outer, 12, [0, WORDS, 0, 0]),
+            caller.call(12, [0, WORDS, 0, 0]),
             (Served::Done, seventh, eighth)
         );
-        assert_eq!(rt; outer.memory().read64(0xfefd_0208), Ok(0xffff_0000));
-        let (served, _, _) = call(&mut nest, &mut outer, 13, [0, 0, 0, 0]);
+        assert_eq!(rt; caller.outer.memory().read64(0xfefd_0208), Ok(0xffff_0000));
+        let (served, _, _) = caller.call(13, [0, 0, 0, 0]);
         assert_eq!(rt; served, Served::Done);
     }
     Ok(())
