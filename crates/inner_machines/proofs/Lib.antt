@@ -7,6 +7,7 @@ pub mod Changed
 pub mod Copying
 pub mod Free
 pub mod Leaving
+pub mod Cases
 pub mod Stay
 pub mod Own
 pub mod Programs

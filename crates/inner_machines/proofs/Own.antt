@@ -1,24 +1,21 @@
 -- Each inner machine is what its own calls alone made of it.
-use Rattle.std.proofs.Common.{◌≡◌, ◌≢◌, ℕ, zero, suc, ◌+◌, ◌<◌, ◌≤◌, Bool, true, false, List, [], ◌∷◌, length, refl, ap, sym, ◌∙◌, subst, arith, nat_eq, inl, inr, slice_set}
+use Rattle.std.proofs.Common.{◌≡◌, ℕ, zero, suc, ◌+◌, ◌<◌, ◌≤◌, Bool, true, false, List, [], ◌∷◌, length, refl, ap, sym, ◌∙◌, subst, arith, nat_eq, inl, inr, slice_set}
 use Rattle.std.specs.Prelude.{Option, Some, None, is_some, Result, Ok, Err, ◌&&◌, not, nat_lt, if◌then◌else◌, slice_index}
-use Rattle.std.specs.List.{AllByRecursion}
 use Rattle.std.specs.FinMap as map
 use Rattle.std.specs.Ordering.{nat_cmp}
 use Rattle.std.proofs.lemmas.Bool.{cases_eq, cases_lt, and_parts}
 use Rattle.std.proofs.lemmas.Bool.Decides.{nat_tests}
 use Rattle.std.proofs.lemmas.List.{get_or-set_same}
-use Rattle.runs.specs.World.{World}
 use Rattle.machine_state.specs.State.{State, register}
 use Rattle.machine_state.specs.Ends.{Answer, Answered, Ended}
-use Rattle.page_memory.specs.Access.{touched, with_bytes}
+use Rattle.page_memory.specs.Access.{touched}
 use Rattle.page_memory.specs.Ranges.{range_allows}
 use Rattle.blob_codec.specs.declared.fault.BlobFault.{BlobFault}
 use Rattle.blob_codec.specs.Grammar.{Program}
 use Rattle.blob_codec.specs.Reading.{program_of}
-use Rattle.inner_machines.specs.Inner.{Inner, Inners, no_inners, most_machines, most_frames, counted, total, frames, free_from, least_free}
-use Rattle.inner_machines.specs.Views.{with_slot}
-use Rattle.inner_machines.specs.Calls.{answers, panics, placed, made, peeked, poked, changed, paged, invoked, expunged, machine_call, peek_call, poke_call, pages_call, invoke_call, expunge_call, nest_call, new_inner, place_for, is_mapping, means_pages, with_changed_pages, page_after, change_pages, full, ok, huh, who}
-use Rattle.inner_machines.specs.Laws.{Stays, LeastIsFree, IsLeastFree, Call, made_beside, left_in, result_in, after, is_made, is_result, is_refused, is_own, own_calls, made_by, alone_after, by_calls, HasRegisters, OwnCallsDecide}
+use Rattle.inner_machines.specs.Inner.{Inner, Inners, no_inners, most_machines, most_frames, total, frames, free_from, least_free}
+use Rattle.inner_machines.specs.Calls.{answers, panics, placed, made, peeked, poked, changed, paged, invoked, expunged, machine_call, peek_call, poke_call, pages_call, invoke_call, expunge_call, nest_call, new_inner, place_for, is_mapping, means_pages, with_changed_pages, page_after, change_pages, full, ok, huh}
+use Rattle.inner_machines.specs.Laws.{Stays, LeastIsFree, IsLeastFree, Call, made_beside, left_in, result_in, after, is_result, is_refused, is_own, own_calls, made_by, by_calls, HasRegisters, OwnCallsDecide}
 use Rattle.inner_machines.proofs.Gaps.{get_here, get_other, same_some}
 use Rattle.inner_machines.proofs.Least.{least_free_is}
 use Rattle.inner_machines.proofs.Totals.{total_slot, total_past, total_none}

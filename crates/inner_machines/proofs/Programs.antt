@@ -1,12 +1,10 @@
 -- The code of a program is no longer than the bytes that spell it.
-use Rattle.std.proofs.Common.{◌≡◌, ℕ, zero, suc, ◌+◌, ◌-◌, ◌*◌, ◌<◌, ◌≤◌, Bool, true, false, List, [], ◌∷◌, length, take, drop, Result, Ok, Err, refl, ap, sym, ◌∙◌, subst, arith}
+use Rattle.std.proofs.Common.{◌≡◌, ℕ, ◌*◌, ◌≤◌, Bool, true, false, List, [], ◌∷◌, length, take, drop, Result, Ok, Err, subst, arith}
 use Rattle.std.specs.Prelude.{nat_lt, ◌==◌, ◌||◌, ◌&&◌, if◌then◌else◌}
 use Rattle.std.proofs.lemmas.List.{length-drop, length-take}
-use Rattle.std.proofs.lemmas.Bool.Decides.{nat_tests}
 use Rattle.numbers.specs.Bytes.{number_of}
 use Rattle.blob_codec.specs.declared.fault.BlobFault.{BlobFault}
 use Rattle.blob_codec.specs.declared.fault.BlobFault.TheVariants.{Truncated}
-use Rattle.blob_codec.specs.declared.program.Counts.{Counts}
 use Rattle.blob_codec.specs.Grammar.{Program, natural_len}
 use Rattle.blob_codec.specs.Reading.{◌>>=◌, byte_front, bytes_front, number_front, following, led_number, natural_front, width_front, counts_front, mask_front, program_of}
 

@@ -1,5 +1,5 @@
 -- An inner machine that works keeps the number of its pages and registers, and spends of the gas that it was given.
-use Rattle.std.proofs.Common.{◌≡◌, ◌≢◌, ℕ, zero, suc, ◌+◌, ◌≤◌, List, length, Option, Some, None, refl, ap, sym, ◌∙◌, subst, arith}
+use Rattle.std.proofs.Common.{◌≡◌, ◌≢◌, ℕ, zero, suc, ◌≤◌, List, length, Option, Some, None, refl, sym, ◌∙◌, subst, arith}
 use Rattle.std.specs.FinMap as map
 use Rattle.runs.specs.Machine.{Outcome, Next, Jump, Call, Ends}
 use Rattle.runs.specs.Laid.{Fetched}
@@ -9,7 +9,7 @@ use Rattle.page_memory.specs.Laws.{StoresKeepPages}
 use Rattle.blob_codec.specs.Reading.{program_of}
 use Rattle.pvm_machine.specs.Machine.{Machine}
 use Rattle.pvm_machine.specs.Step.{Standing, does_at, instr_at}
-use Rattle.pvm_machine.specs.Stepped.{Stepped, came_out, begun, stepped, go_on, repeated, all_steps, Keeps}
+use Rattle.pvm_machine.specs.Stepped.{Stepped, came_out, begun, stepped, go_on, repeated, Keeps}
 use Rattle.pvm_machine.specs.declared.answers.Step.{Step}
 use Rattle.pvm_machine.specs.declared.answers.Step.TheVariants as answer
 use Rattle.pvm_machine.proofs.Steps.{begins, no_step}
