@@ -17,7 +17,7 @@ use Rattle.pvm_machine.proofs.Kept.{step_keeps}
 use Rattle.inner_machines.specs.Inner.{Inner}
 use Rattle.inner_machines.specs.Calls.{or_empty, at_work, worked}
 
--- no step that is defined answers that memory was refused
+-- no step that is defined answers that an allocation failed
 came_out_not : (m : Machine) (next : ℕ) (x : Outcome ℕ State End) → (came_out m next x).answer ≢ answer.Memory
 came_out_not m next (Next s) = λ e. cc
 came_out_not m next (Jump target s) = λ e. cc
