@@ -49,7 +49,7 @@ impl<'a> Checked<'a> {
         ensures same { result ≡ self.now }
         ensures checked { IsChecked result }
     {
-        self.program.lent_again()
+        self.program.borrowed_again()
     }
 }
 

@@ -7,7 +7,7 @@ use std::process::Abort;
 use std::test::*;
 
 #[test]
-fn blocks_start_at_the_front_and_behind_jumps(rt: HostRuntime) -> Result<(), Fail> {
+fn blocks_start_at_the_front_and_after_jumps(rt: HostRuntime) -> Result<(), Fail> {
     // jump @5, load_imm r7 5, jump_ind r0 0
     let bytes = [0x28, 0x05, 0x00, 0x00, 0x00, 0x33, 0x07, 0x05, 0x32, 0x00];
     let code = Code::new(&bytes, &[0x21, 0x01]);
@@ -108,7 +108,7 @@ fn checks_programs(rt: HostRuntime) {
 }
 
 #[test]
-fn tells_the_first_fault(rt: HostRuntime) {
+fn reports_the_first_fault(rt: HostRuntime) {
     let rt = &rt;
     // no code; load_imm r7 0 at position 1 alone
     answers(rt, &[0, 1, 0], Some(CheckFault::NoFirst));

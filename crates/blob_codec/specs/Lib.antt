@@ -1,4 +1,4 @@
 pub mod Grammar
 pub mod Reading
-pub mod Lent
+pub mod Borrowed
 pub mod Laws

@@ -23,11 +23,11 @@ impl<'a> Model for Container<'a> {
 
     ghost Value = { Content };
 
-    ghost use Rattle.blob_codec.specs.Lent.{held_by, IsContainerLent};
+    ghost use Rattle.blob_codec.specs.Borrowed.{held_by, IsContainerBorrowed};
 
     ghost view = { held_by };
 
-    ghost invariant = { IsContainerLent };
+    ghost invariant = { IsContainerBorrowed };
 }
 
 /// What a container begins with.
@@ -103,7 +103,7 @@ impl<'a> Container<'a> {
     pub fn program(&self) -> Program<'a>
         ensures { result ≡ self.now.program }
     {
-        self.program.lent_again()
+        self.program.borrowed_again()
     }
 }
 

@@ -23,11 +23,11 @@ impl<'a> Model for Program<'a> {
 
     ghost Value = { Content };
 
-    ghost use Rattle.blob_codec.specs.Lent.{content_of, IsProgramLent};
+    ghost use Rattle.blob_codec.specs.Borrowed.{content_of, IsProgramBorrowed};
 
     ghost view = { content_of };
 
-    ghost invariant = { IsProgramLent };
+    ghost invariant = { IsProgramBorrowed };
 }
 
 /// What a program begins with.
@@ -103,7 +103,7 @@ impl<'a> Program<'a> {
     }
 
     /// The same program, borrowed again.
-    pub fn lent_again(&self) -> Program<'a>
+    pub fn borrowed_again(&self) -> Program<'a>
         ensures { result ≡ self.now }
     {
         Program {

@@ -41,9 +41,9 @@ unfolding section_of
 relocations_of-object_in b s lt = rw (slice_get-sections_of b s lt) refl
 
 -- a file without a fault is the object that it spells
-pub object_of-sound : (b file : List ℕ) → file ≡ b → faults_of b ≡ [] → object_of b ≡ Some (object_in file)
+pub object_of-valid : (b file : List ℕ) → file ≡ b → faults_of b ≡ [] → object_of b ≡ Some (object_in file)
 unfolding object_of
-object_of-sound b file same sound = rw (same, sound) refl
+object_of-valid b file same valid = rw (same, valid) refl
 
 -- a file with a fault is none
 pub object_of-faulty : (b : List ℕ) (fault : Refusal) → first_in (faults_of b) ≡ Some fault → object_of b ≡ None

@@ -13,8 +13,8 @@ use Rattle.elf_objects.specs.declared.parts.SectionKind.{SectionKind}
 use Rattle.elf_objects.specs.declared.parts.SectionKind.TheVariants.{Code, ReadOnly, Writable, Zero, Unloaded}
 use Rattle.elf_objects.specs.declared.parts.SymbolIndex.{SymbolIndex}
 use Rattle.elf_objects.specs.declared.parts.SymbolIndex.TheVariants as index_variant
-use Rattle.elf_objects.specs.declared.parts.Section as lent_section
-use Rattle.elf_objects.specs.declared.parts.Symbol as lent_symbol
+use Rattle.elf_objects.specs.declared.parts.Section as borrowed_section
+use Rattle.elf_objects.specs.declared.parts.Symbol as borrowed_symbol
 use Rattle.elf_objects.specs.declared.parts.Relocation.{Relocation}
 use Rattle.elf_objects.specs.declared.relocation_index.Part.{Part}
 use Rattle.elf_objects.specs.Objects.{ShowsSection, ShowsSymbol}
@@ -148,9 +148,9 @@ loaded-form b s e =
 
 known-form : (b : List ℕ) (s : ℕ) → faults_of b ≡ [] → s < section_count b → is_loaded b s ≡ true → is_unknown_form (header_of b s) ≡ false
 unfolding is_unsupported
-known-form b s sound lt e =
+known-form b s valid lt e =
     let form = loaded-form b s e in
-    let all = supported-holds b s sound lt in
+    let all = supported-holds b s valid lt in
     let last = neither-right _ _ all in
     fails-right (has_flag (header_of b s).flags 2 && not (is_unwinding b s)) _ last (rw (form.0, form.2) refl)
 
@@ -164,9 +164,9 @@ no-past b h e =
 
 past-holds : (b : List ℕ) (s : ℕ) → faults_of b ≡ [] → s < section_count b → ((header_of b s).kind == 1) ≡ true → lies_past b (header_of b s) ≡ false
 unfolding is_bad_section
-past-holds b s sound lt is =
+past-holds b s valid lt is =
     let h = header_of b s in
-    let all = table-holds b s sound lt in
+    let all = table-holds b s valid lt in
     let past : (not (h.kind == 0) && not (h.kind == 8) && lies_past b h) ≡ false =
     neither-right _ _ (neither-left _ _ (neither-left _ _ (neither-left _ _ all))) in
     let other : (not (h.kind == 0) && not (h.kind == 8)) ≡ true = grind (arith, nat_tests) in
@@ -174,7 +174,7 @@ past-holds b s sound lt is =
 
 align-holds : (b : List ℕ) (s : ℕ) → faults_of b ≡ [] → s < section_count b → is_loaded b s ≡ true → is_bad_align (header_of b s).align ≡ false
 unfolding is_bad_section
-align-holds b s sound lt e = fails-right (is_loaded b s) _ (neither-right _ _ (table-holds b s sound lt)) e
+align-holds b s valid lt e = fails-right (is_loaded b s) _ (neither-right _ _ (table-holds b s valid lt)) e
 
 one-power : IsTrue (is_power_of_two 1)
 unfolding ones ones_in
@@ -195,16 +195,16 @@ align-power align false is e =
 
 filled-content : (b : List ℕ) (s : ℕ) → faults_of b ≡ [] → s < section_count b → section_kind b s ≢ Unloaded → section_kind b s ≢ Zero → length (section_of b s).content ≡ (section_of b s).size
 unfolding section_of
-filled-content b s sound lt loaded filled =
+filled-content b s valid lt loaded filled =
     let h = header_of b s in
     let is = kind-loaded b s loaded in
     let form = loaded-form b s is in
-    let known = known-form b s sound lt is in
+    let known = known-form b s valid lt is in
     let ne : loaded_kind h ≢ Zero = rw (kind-of-loaded b s is) at filled in
     let progbits : (h.kind == 1) ≡ true =
     filled-kind (has_flag h.flags 4) (has_flag h.flags 1) (h.kind == 1) (h.kind == 8) form.1 (neither-right _ _ (neither-left _ _ known)) (neither-right _ _ known) ne in
     let there : (h.kind == 0 || h.kind == 8) ≡ false = grind (arith, nat_tests) in
-    rw there (no-past b h (past-holds b s sound lt progbits))
+    rw there (no-past b h (past-holds b s valid lt progbits))
 
 zero-content : (b : List ℕ) (s : ℕ) → section_kind b s ≡ Zero → (section_of b s).content ≡ []
 unfolding section_of section_kind
@@ -218,9 +218,9 @@ zero-content b s is =
 
 section-align : (b : List ℕ) (s : ℕ) → faults_of b ≡ [] → s < section_count b → section_kind b s ≢ Unloaded → IsTrue (is_power_of_two (section_of b s).align) × ((section_of b s).align ≤ 4096)
 unfolding section_of
-section-align b s sound lt loaded =
+section-align b s valid lt loaded =
     let align = (header_of b s).align in
-    align-power align (align == 0) refl (align-holds b s sound lt (kind-loaded b s loaded))
+    align-power align (align == 0) refl (align-holds b s valid lt (kind-loaded b s loaded))
 
 positive-align : (b : List ℕ) (s : ℕ) → 0 < (section_of b s).align
 unfolding section_of
@@ -230,14 +230,14 @@ kind-section_of : (b : List ℕ) (s : ℕ) → (section_of b s).kind ≡ section
 unfolding section_of
 kind-section_of b s = refl
 
-pub section-keeps : (b : List ℕ) (s : ℕ) (lent : lent_section.Section) → faults_of b ≡ [] → s < section_count b → ShowsSection lent (section_of b s) → KeepsSection lent
-section-keeps b s lent sound lt shows =
-    let kind : lent.kind ≡ section_kind b s = shows.kind ∙ kind-section_of b s in
+pub section-keeps : (b : List ℕ) (s : ℕ) (borrowed : borrowed_section.Section) → faults_of b ≡ [] → s < section_count b → ShowsSection borrowed (section_of b s) → KeepsSection borrowed
+section-keeps b s borrowed valid lt shows =
+    let kind : borrowed.kind ≡ section_kind b s = shows.kind ∙ kind-section_of b s in
     record {
       positive = rw shows.align (positive-align b s);
-      power = λ loaded. rw shows.align (section-align b s sound lt (rw kind at loaded)).0;
-      aligned = λ loaded. rw shows.align (section-align b s sound lt (rw kind at loaded)).1;
-      filled = λ loaded filled. rw (shows.content, shows.size) (filled-content b s sound lt (rw kind at loaded) (rw kind at filled));
+      power = λ loaded. rw shows.align (section-align b s valid lt (rw kind at loaded)).0;
+      aligned = λ loaded. rw shows.align (section-align b s valid lt (rw kind at loaded)).1;
+      filled = λ loaded filled. rw (shows.content, shows.size) (filled-content b s valid lt (rw kind at loaded) (rw kind at filled));
       empty = λ zeros. rw shows.content (zero-content b s (rw kind at zeros));
     }
 
@@ -264,10 +264,10 @@ keeps-relocation b s t e same lt loaded h =
 -- the relocation to which the index leads
 pub relocation-keeps : (b : List ℕ) (s at : ℕ) (part : Part) → faults_of b ≡ [] → LeadsTo b s at part →
     KeepsRelocation (object_in b) s (relocation_in (bytes_of b (header_of b part.section)) (24 * (at - part.before)))
-relocation-keeps b s at part sound leads =
+relocation-keeps b s at part valid leads =
     let of = of-rela b s part.section leads.rela in
     keeps-relocation b s (header_of b part.section).info _ of.1 (rela-target b part.section of.0) (rela-loaded b part.section of.0)
-    (relocation-holds b part.section (at - part.before) sound leads.section of.0 leads.within)
+    (relocation-holds b part.section (at - part.before) valid leads.section of.0 leads.within)
 
 -- What a symbol keeps
 
@@ -331,22 +331,22 @@ entry-in-range b i pos e =
 
 symbol-in-range : (b : List ℕ) (i : ℕ) → faults_of b ≡ [] → 0 < i → i < symbol_count b → is_out_of_range b (symbol_at b i).index (symbol_at b i).value ≡ false
 unfolding symbol_count symbol_at
-symbol-in-range b i sound pos lt =
+symbol-in-range b i valid pos lt =
     let table = has-table b i (symbol_table b) pos lt in
     let small : i < symbol_entry_count b = rw (count-some b (symbol_table b) table.0 table.1) at lt in
-    let fine = symbol-holds b table.0 i sound (table-within b table.0 table.1) (is-found (symbol_table b) table.0 table.1) small in
+    let fine = symbol-holds b table.0 i valid (table-within b table.0 table.1) (is-found (symbol_table b) table.0 table.1) small in
     rw (symbol-some b (symbol_table b) i table.0 table.1) (entry-in-range b i pos fine)
 
 lies-within : (b : List ℕ) (s value : ℕ) → (is_loaded b s ≡ true → value ≤ (header_of b s).size) → LiesWithin value (section_of b s)
 unfolding section_of
 lies-within b s value fits = λ loaded. fits (kind-loaded b s loaded)
 
-pub symbol-keeps : (b : List ℕ) (i : ℕ) (lent : lent_symbol.Symbol) → faults_of b ≡ [] → 0 < i → i < symbol_count b → ShowsSymbol lent (symbol_at b i) → KeepsSymbol (object_in b) lent
-symbol-keeps b i lent sound pos lt shows =
-    let fine : is_out_of_range b lent.index lent.value ≡ false = rw (shows.index, shows.value) (symbol-in-range b i sound pos lt) in
+pub symbol-keeps : (b : List ℕ) (i : ℕ) (borrowed : borrowed_symbol.Symbol) → faults_of b ≡ [] → 0 < i → i < symbol_count b → ShowsSymbol borrowed (symbol_at b i) → KeepsSymbol (object_in b) borrowed
+symbol-keeps b i borrowed valid pos lt shows =
+    let fine : is_out_of_range b borrowed.index borrowed.value ≡ false = rw (shows.index, shows.value) (symbol-in-range b i valid pos lt) in
     record {
-      there = λ s is. rw (length-sections_of b) (in-range b lent.index lent.value s fine is).0;
+      there = λ s is. rw (length-sections_of b) (in-range b borrowed.index borrowed.value s fine is).0;
       within = λ s is.
-          let range = in-range b lent.index lent.value s fine is in
-          rw (slice_get-sections_of b s range.0) (lies-within b s lent.value range.1);
+          let range = in-range b borrowed.index borrowed.value s fine is in
+          rw (slice_get-sections_of b s range.0) (lies-within b s borrowed.value range.1);
     }

@@ -55,7 +55,7 @@ pub record HoldsPart (parts : List Part) (at i : ℕ) : Type 0 where
 
 -- a file has no fault; the names of its sections and of its symbols are at hand, and the index of its relocations
 pub record IsRead (b names entry_names : List ℕ) (rows : List Row) : Type 0 where
-  pub sound : faults_of b ≡ []
+  pub valid : faults_of b ≡ []
   pub named : names ≡ section_names b
   pub entries_named : entry_names ≡ symbol_names b
   pub indexed : IsIndexed b rows (section_count b)

@@ -5,8 +5,8 @@ use Rattle.elf_objects.specs.declared.parts.SectionKind.TheVariants as kinds
 use Rattle.elf_objects.specs.declared.parts.Binding.{Binding}
 use Rattle.elf_objects.specs.declared.parts.SymbolIndex.{SymbolIndex}
 use Rattle.elf_objects.specs.declared.parts.Relocation.{Relocation}
-use Rattle.elf_objects.specs.declared.parts.Section as lent_section
-use Rattle.elf_objects.specs.declared.parts.Symbol as lent_symbol
+use Rattle.elf_objects.specs.declared.parts.Section as borrowed_section
+use Rattle.elf_objects.specs.declared.parts.Symbol as borrowed_symbol
 
 -- a section of this kind takes part in the program
 abbrev pub is_loaded_kind : SectionKind → Bool
@@ -49,16 +49,16 @@ abbrev pub relocations_of : Object → ℕ → List Relocation
 relocations_of object at = relocations_in (slice_get object.sections at)
 
 -- the borrowed parts of a section are those of the section
-pub record ShowsSection (lent : lent_section.Section) (section : Section) : Type 0 where
-  pub name : lent.name.now ≡ section.name
-  pub kind : lent.kind ≡ section.kind
-  pub size : lent.size ≡ section.size
-  pub align : lent.align ≡ section.align
-  pub content : lent.content.now ≡ section.content
+pub record ShowsSection (borrowed : borrowed_section.Section) (section : Section) : Type 0 where
+  pub name : borrowed.name.now ≡ section.name
+  pub kind : borrowed.kind ≡ section.kind
+  pub size : borrowed.size ≡ section.size
+  pub align : borrowed.align ≡ section.align
+  pub content : borrowed.content.now ≡ section.content
 
 -- the borrowed parts of a symbol are those of the symbol
-pub record ShowsSymbol (lent : lent_symbol.Symbol) (symbol : Symbol) : Type 0 where
-  pub name : lent.name.now ≡ symbol.name
-  pub binding : lent.binding ≡ symbol.binding
-  pub index : lent.index ≡ symbol.index
-  pub value : lent.value ≡ symbol.value
+pub record ShowsSymbol (borrowed : borrowed_symbol.Symbol) (symbol : Symbol) : Type 0 where
+  pub name : borrowed.name.now ≡ symbol.name
+  pub binding : borrowed.binding ≡ symbol.binding
+  pub index : borrowed.index ≡ symbol.index
+  pub value : borrowed.value ≡ symbol.value

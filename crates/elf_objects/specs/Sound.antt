@@ -5,13 +5,13 @@ use Rattle.elf_objects.specs.Objects.{Section, Object}
 use Rattle.elf_objects.specs.Widths.{width}
 use Rattle.elf_objects.specs.declared.parts.SectionKind.TheVariants.{Zero, Unloaded}
 use Rattle.elf_objects.specs.declared.parts.SymbolIndex.TheVariants as index_variant
-use Rattle.elf_objects.specs.declared.parts.Section as lent_section
-use Rattle.elf_objects.specs.declared.parts.Symbol as lent_symbol
+use Rattle.elf_objects.specs.declared.parts.Section as borrowed_section
+use Rattle.elf_objects.specs.declared.parts.Symbol as borrowed_symbol
 use Rattle.elf_objects.specs.declared.parts.Relocation.{Relocation}
 
 -- an alignment is at least 1, and that of a loaded section a power of two up to 4096; a loaded section has as many
 -- bytes as its size says, or none where it begins as zeros
-pub record KeepsSection (section : lent_section.Section) : Type 0 where
+pub record KeepsSection (section : borrowed_section.Section) : Type 0 where
   pub positive : 0 < section.align
   pub power : section.kind ≢ Unloaded → IsTrue (is_power_of_two section.align)
   pub aligned : section.kind ≢ Unloaded → section.align ≤ 4096
@@ -23,7 +23,7 @@ abbrev pub LiesWithin : ℕ → Section → Type 0
 LiesWithin value section = section.kind ≢ Unloaded → value ≤ section.size
 
 -- the section of a symbol is there, and the symbol lies within it
-pub record KeepsSymbol (object : Object) (symbol : lent_symbol.Symbol) : Type 0 where
+pub record KeepsSymbol (object : Object) (symbol : borrowed_symbol.Symbol) : Type 0 where
   pub there : (s : ℕ) → symbol.index ≡ index_variant.Section s → s < length object.sections
   pub within :
       (s : ℕ) → symbol.index ≡ index_variant.Section s → IsSomeAnd (slice_get object.sections s) (LiesWithin symbol.value)

@@ -4,6 +4,7 @@
 //! that breaks a rule of `specs/Rules.antt` is refused with the first of its faults in the order of `specs/Faults.antt`.
 #![tactic(auto)]
 
+mod checked_file;
 mod fault;
 mod file;
 mod little_endian;
@@ -17,7 +18,6 @@ mod relocation_index;
 mod relocation_rules;
 mod section_header;
 mod section_rules;
-mod sound_file;
 mod string_table;
 mod symbol_entry;
 mod symbol_rules;

@@ -3,16 +3,16 @@ ghost use Rattle.elf_objects.specs.Objects.{relocations_of, ShowsSection, ShowsS
 ghost use Rattle.elf_objects.specs.Reading.{object_of, Refuses};
 ghost use Rattle.elf_objects.specs.Sound.{KeepsSection, KeepsSymbol, KeepsRelocation};
 
+use crate::checked_file::CheckedFile;
 use crate::fault::ObjectFault;
 use crate::parts::{Relocation, Section, Symbol};
-use crate::sound_file::SoundFile;
 use std::alloc::Global;
 use std::marker::Model;
 
 /// A relocatable object, whose parts are slices of the bytes of its file.
 #[derive(Drop)]
 pub struct Object<'a> {
-    file: SoundFile<'a>,
+    file: CheckedFile<'a>,
 }
 
 impl<'a> Model for Object<'a> {
@@ -38,7 +38,7 @@ impl<'a> Object<'a> {
             (λ fault. Refuses fault bytes.now index) }
     {
         Ok(Object {
-            file: SoundFile::read(alloc, bytes, index)?,
+            file: CheckedFile::read(alloc, bytes, index)?,
         })
     }
 

@@ -401,7 +401,7 @@ fn spells_offsets(rt: HostRuntime) -> Result<(), Fail> {
 }
 
 /// Compares the instruction at a position of a code with a mask.
-fn stands(rt: &impl Abort, bytes: &[u8], mask: &[u8], at: u64, instr: Instr, next: u64)
+fn is_fetched(rt: &impl Abort, bytes: &[u8], mask: &[u8], at: u64, instr: Instr, next: u64)
     requires { len_of mask.now ≡ (len_of bytes.now + 7) / 8 }
 {
     assert_eq!(rt; fetch(&Code::new(bytes, mask), at), Fetched { instr, next });
@@ -416,14 +416,14 @@ fn fetches_what_the_encoder_does_not_write(rt: HostRuntime) {
         x: 5,
         ..TRAP
     };
-    stands(rt, &[0x33, 0x0f, 0x05], &[1], 0, capped, 3);
+    is_fetched(rt, &[0x33, 0x0f, 0x05], &[1], 0, capped, 3);
     let negative = Instr {
         op: 51,
         a: 7,
         x: 0xffff_ffff_ffff_ff80,
         ..TRAP
     };
-    stands(rt, &[0x33, 0x07, 0x80], &[1], 0, negative, 3);
+    is_fetched(rt, &[0x33, 0x07, 0x80], &[1], 0, negative, 3);
     let long_field = Instr {
         op: 180,
         a: 7,
@@ -432,7 +432,7 @@ fn fetches_what_the_encoder_does_not_write(rt: HostRuntime) {
         y: 5,
         ..TRAP
     };
-    stands(
+    is_fetched(
         rt,
         &[0xb4, 0x77, 0x0f, 1, 2, 3, 4, 5],
         &[1],
@@ -440,7 +440,7 @@ fn fetches_what_the_encoder_does_not_write(rt: HostRuntime) {
         long_field,
         8,
     );
-    stands(rt, &[0x33], &[1], 0, Instr { op: 51, ..TRAP }, 1);
+    is_fetched(rt, &[0x33], &[1], 0, Instr { op: 51, ..TRAP }, 1);
     let long = Instr {
         op: 51,
         a: 7,
@@ -450,7 +450,7 @@ fn fetches_what_the_encoder_does_not_write(rt: HostRuntime) {
     let mut bytes = [1u8; 30];
     bytes[0] = 0x33;
     bytes[1] = 0x07;
-    stands(rt, &bytes, &[1, 0, 0, 0], 0, long, 25);
+    is_fetched(rt, &bytes, &[1, 0, 0, 0], 0, long, 25);
 }
 
 #[test]
@@ -458,7 +458,7 @@ fn fetches_a_trap_where_there_is_no_instruction(rt: HostRuntime) {
     let rt = &rt;
     let bytes = [0x28, 5, 0, 0, 0, 0x33, 7, 5, 0x32, 0, 2];
     let mask = [0x21, 0x05];
-    stands(
+    is_fetched(
         rt,
         &bytes,
         &mask,
@@ -471,11 +471,11 @@ fn fetches_a_trap_where_there_is_no_instruction(rt: HostRuntime) {
         },
         8,
     );
-    stands(rt, &bytes, &mask, 8, Instr { op: 50, ..TRAP }, 10);
-    stands(rt, &bytes, &mask, 1, TRAP, 1);
-    stands(rt, &bytes, &mask, 10, TRAP, 10);
-    stands(rt, &bytes, &mask, 11, TRAP, 11);
-    stands(rt, &bytes, &mask, u64::MAX, TRAP, u64::MAX);
+    is_fetched(rt, &bytes, &mask, 8, Instr { op: 50, ..TRAP }, 10);
+    is_fetched(rt, &bytes, &mask, 1, TRAP, 1);
+    is_fetched(rt, &bytes, &mask, 10, TRAP, 10);
+    is_fetched(rt, &bytes, &mask, 11, TRAP, 11);
+    is_fetched(rt, &bytes, &mask, u64::MAX, TRAP, u64::MAX);
 }
 
 /// The instruction at a position in the midst of a long code ends at the next mark, at the end of the code, or 25 bytes on.

@@ -130,9 +130,9 @@ fn expect_fault(
 
 /// What a section is: its name and kind, its size and alignment, and how long its content is and how many relocations it
 /// has.
-type Told = (&'static [u8], SectionKind, (u64, u64, usize, u32));
+type Read = (&'static [u8], SectionKind, (u64, u64, usize, u32));
 
-const SECTIONS: [Told; 10] = [
+const SECTIONS: [Read; 10] = [
     (b"", SectionKind::Unloaded, (0, 1, 0, 0)),
     (b".text", SectionKind::Code, (8, 4, 8, 3)),
     (b".data", SectionKind::Writable, (8, 8, 8, 0)),
@@ -162,10 +162,10 @@ fn reads_sections(rt: HostRuntime) -> Result<(), Fail> {
     Ok(())
 }
 
-fn see_section(rt: &impl Abort, object: &Object<'_>, at: u32, told: Told) {
+fn see_section(rt: &impl Abort, object: &Object<'_>, at: u32, seen: Read) {
     assert!(rt; at < object.sections());
     let section = object.section(at);
-    let (name, kind, (size, align, len, relocations)) = told;
+    let (name, kind, (size, align, len, relocations)) = seen;
     assert_eq!(rt; section.name, name);
     assert_eq!(rt; section.kind, kind);
     assert_eq!(rt; section.kind.is_loaded(), kind != SectionKind::Unloaded);

@@ -211,20 +211,20 @@ fn expect(rt: &impl Abort, alloc: Global, case: &Case) -> Result<(), Fail> {
         Ok(resolved) => {
             assert_eq!(rt; None, case.fault, "{}", case.shows);
             for (object, number, place) in case.places {
-                let told = place_of(rt, &objects, &wanted, &resolved, *object, *number);
-                assert_eq!(rt; told, *place, "{}: {object}, {number}", case.shows);
+                let seen = place_of(rt, &objects, &wanted, &resolved, *object, *number);
+                assert_eq!(rt; seen, *place, "{}: {object}, {number}", case.shows);
             }
             for (entry, place) in case.entry_places.iter().enumerate() {
-                let told = entry_of(rt, &objects, &wanted, &resolved, entry);
-                assert_eq!(rt; told, *place, "{}", case.shows);
+                let seen = entry_of(rt, &objects, &wanted, &resolved, entry);
+                assert_eq!(rt; seen, *place, "{}", case.shows);
             }
             for (name, answer) in case.answers {
                 assert_eq!(rt; resolved.lookup(*name), *answer, "{}", case.shows);
             }
         }
         Err(SymbolFault::Bad(fault)) => {
-            let told = (fault.code, fault.object, fault.section, fault.offset);
-            assert_eq!(rt; Some(told), case.fault, "{}", case.shows);
+            let seen = (fault.code, fault.object, fault.section, fault.offset);
+            assert_eq!(rt; Some(seen), case.fault, "{}", case.shows);
         }
         Err(SymbolFault::Memory) => return Err(Fail::from(AllocError)),
     }

@@ -81,8 +81,8 @@ found_set name (x ∷ xs) (suc at) d new within here before same q =
     ∙ swapped _ _ _ _ _ (λ a b. absurd (let e : name ≡ x.0 = sym (tie q name b) ∙ tie q x.0 a in let t : is_named name x ≡ true = (bytes_eq-Decides name x.0).1 e in cc))
 
 -- a position in a borrowed list is one in the list
-pub located : (lent files : List Entry) (name : List ℕ) (r at : Option ℕ) → lent ≡ files → r ≡ position (is_named name) lent → r ≡ at → position (is_named name) files ≡ at
-located lent files name r at same is e = ap (position (is_named name)) (sym same) ∙ sym is ∙ e
+pub located : (borrowed files : List Entry) (name : List ℕ) (r at : Option ℕ) → borrowed ≡ files → r ≡ position (is_named name) borrowed → r ≡ at → position (is_named name) files ≡ at
+located borrowed files name r at same is e = ap (position (is_named name)) (sym same) ∙ sym is ∙ e
 
 -- where no entry is the name's, the folder has no slot for it
 get-none : (folder : FolderState) (files : List Entry) (name : List ℕ) → folder.slots ≡ from_entries files → position (is_named name) files ≡ None → get folder.slots name ≡ None

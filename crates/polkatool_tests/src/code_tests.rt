@@ -33,7 +33,7 @@ fn an_instruction_is_spelled(rt: HostRuntime) -> Result<(), Fail> {
 }
 
 #[test]
-fn what_stands_at_a_mark_is_fetched(rt: HostRuntime) {
+fn what_is_at_a_mark_is_fetched(rt: HostRuntime) {
     marks_come_back();
     stops_come_back();
     let bytes = [51, 7, 5, 51, 7, 5];
@@ -50,7 +50,7 @@ fn what_stands_at_a_mark_is_fetched(rt: HostRuntime) {
 }
 
 #[test]
-fn a_mask_has_a_bit_for_each_byte_and_zeros_behind(rt: HostRuntime) -> Result<(), Fail> {
+fn a_mask_has_a_bit_for_each_byte_and_zeros_after(rt: HostRuntime) -> Result<(), Fail> {
     mask_length();
     mask_is_padded();
     // nine traps, each with its mark

@@ -26,7 +26,7 @@ fn what_is_written_is_read_and_nothing_else(rt: HostRuntime) -> Result<(), Fail>
     let program = container.program();
     assert_eq!(rt; (program.table_len(), program.width()), (2, 2));
     assert_eq!(rt; program.code().bytes(), [0x00].as_slice());
-    assert!(rt; program.lent_again().code().marked(0));
+    assert!(rt; program.borrowed_again().code().marked(0));
     let mut longer = bytes.as_slice().to_vec(rt.alloc())?;
     for len in 0..longer.len() {
         let front = Container::read(&longer[..len]).err();

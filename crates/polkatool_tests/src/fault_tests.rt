@@ -4,7 +4,7 @@ use faults::{first_found, first_of_each, first_of_phases, none_at_each};
 use std::test::*;
 
 #[test]
-fn the_first_fault_in_order_is_told(rt: HostRuntime) -> Result<(), Fail> {
+fn the_first_fault_in_order_is_reported(rt: HostRuntime) -> Result<(), Fail> {
     first_of_phases();
     first_of_each();
     first_found();
@@ -20,8 +20,8 @@ fn the_first_fault_in_order_is_told(rt: HostRuntime) -> Result<(), Fail> {
         let program = Program::read(&bytes)?;
         assert_eq!(rt; check(program).err(), Some(want), "at {opcode}");
     }
-    let sound = [2, 1, 3, 1, 0, 1, 0, 7, 3];
-    let checked = check(Program::read(&sound)?)?;
+    let valid = [2, 1, 3, 1, 0, 1, 0, 7, 3];
+    let checked = check(Program::read(&valid)?)?;
     assert_eq!(rt; checked.program().code().len(), 3);
     Ok(())
 }

@@ -148,8 +148,8 @@ fn see_addresses(rt: &impl Abort, objects: &Objects<'_>, wanted: &Wanted, placed
         (1, 4, Some(0x31040)),
         (1, 5, None),
     ] {
-        let told = address_of(rt, objects, wanted, placed, object, section);
-        assert_eq!(rt; told, address, "{object}, {section}");
+        let seen = address_of(rt, objects, wanted, placed, object, section);
+        assert_eq!(rt; seen, address, "{object}, {section}");
     }
 }
 

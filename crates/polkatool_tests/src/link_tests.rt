@@ -170,7 +170,7 @@ fn assert_code(rt: &impl Abort, objects: &Objects<'_>)
 }
 
 #[test]
-fn sources_tell_what_is_at_an_offset(rt: HostRuntime) -> Result<(), Fail> {
+fn sources_say_what_is_at_an_offset(rt: HostRuntime) -> Result<(), Fail> {
     let file = object_file(rt.alloc())?;
     let phases = lift_main(&rt, rt.alloc(), &file)??;
     let tables = Tables::new(rt.alloc(), &phases.objects)?;

@@ -2,8 +2,8 @@ use crate::fixtures::returning_five;
 use blob_codec::Container;
 use pvm_machine::{Exit, Machine};
 use runs::{
-    block_is_carried, blocks_begin_at_marks, code_agrees, end_stays, gas_is_counted,
-    gas_is_paid_in_turn, groups_begin, jumps_keep_their_entry, laid_runs_the_same, stretches_agree,
+    block_is_carried, blocks_begin_at_marks, code_agrees, end_stays, gas_is_counted, groups_begin,
+    jumps_keep_their_entry, laid_runs_the_same, run_is_step_by_step, simulation_agrees,
     world_is_cut, world_is_laid,
 };
 use std::test::*;
@@ -11,7 +11,7 @@ use std::test::*;
 #[test]
 fn each_instruction_costs_one(rt: HostRuntime) -> Result<(), Fail> {
     gas_is_counted();
-    gas_is_paid_in_turn();
+    run_is_step_by_step();
     let bytes = returning_five();
     let container = Container::read(&bytes)?;
     let mut machine = Machine::start(rt.alloc(), &container, 0, &[], 10)?;
@@ -30,7 +30,7 @@ fn each_instruction_costs_one(rt: HostRuntime) -> Result<(), Fail> {
 #[test]
 fn laws_of_all_machines_are_there() {
     end_stays();
-    stretches_agree();
+    simulation_agrees();
     laid_runs_the_same();
     block_is_carried();
     code_agrees();

@@ -54,6 +54,6 @@ Adds-import old new wanted at e name =
     ap (λ names. meaning_in names name) e ∙ meaning_in-added old name other (Imported at) ∙ ap (λ m. meaning_in old name or_else m) (sym (option_map-where_true Imported (same name other) at))
 
 -- the borrowed name of an import is the import's
-pub lent_name : (import : Option Import) (name : List ℕ) → IsSomeAnd import (λ one. name ≡ one.name) → name ≡ name_of import
-lent_name None name is = absurd is
-lent_name (Some one) name is = is
+pub borrowed_name : (import : Option Import) (name : List ℕ) → IsSomeAnd import (λ one. name ≡ one.name) → name ≡ name_of import
+borrowed_name None name is = absurd is
+borrowed_name (Some one) name is = is

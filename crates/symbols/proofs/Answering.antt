@@ -13,7 +13,7 @@ use Rattle.symbols.specs.Wanted.{Given, import_of}
 use Rattle.symbols.specs.Resolution.{name_place, definition_or_import, answer_at, answer_of}
 use Rattle.symbols.specs.Names.{HoldsMeanings, meaning_in}
 use Rattle.symbols.specs.Rows.{AddsAnswer, SetsAnswer, HasAnswers, HasAnswersAmong, is_among}
-use Rattle.symbols.proofs.Standing.{is_meaning}
+use Rattle.symbols.proofs.DefinitionsThere.{is_meaning}
 
 or_else-same : {A : Type 0} (o : Option A) → (o or_else o) ≡ o
 or_else-same None = refl

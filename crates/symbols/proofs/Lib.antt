@@ -1,7 +1,7 @@
 pub mod Lookups
 pub mod Marking
 pub mod Adding
-pub mod Standing
+pub mod DefinitionsThere
 pub mod Finding
 pub mod Answering
 pub mod Resolving

@@ -14,7 +14,7 @@ use Rattle.symbols.specs.Parts.{same, object_at, symbol_at, kind_of, kind_at}
 use Rattle.symbols.specs.Wanted.{Given, Wanted, import_of, import_name_at, entry_name_at}
 use Rattle.symbols.specs.Resolution.{resolution, entry_place, Definition, section_place, defined_place, definition_or_import, definition_of, name_place, symbol_place}
 use Rattle.symbols.specs.Laws.{HasSection, IsWithin, PlacesAreWithin}
-use Rattle.symbols.proofs.Standing.{first_below-holds, Stands-definition_of}
+use Rattle.symbols.proofs.DefinitionsThere.{first_below-holds, DefinitionIsThere-definition_of}
 
 -- a section that is loaded is there
 has_section : (objects : List Object) (object section : ℕ) → object < length objects → is_loaded_kind (kind_at objects object section) ≡ true → HasSection objects object section
@@ -50,7 +50,7 @@ within_either : (given : Given) (name : List ℕ) (import : Option ℕ) → ((at
 within_either given name import imports = by (definition_of given name) refl import refl
   where
     by : (o : Option Definition) → definition_of given name ≡ o → (i : Option ℕ) → import ≡ i → IsWithin given (definition_or_import given.objects o i)
-    by (Some d) is i e = within_defined given d.object d.symbol.index d.symbol.value (Stands-definition_of given name d is).object_in
+    by (Some d) is i e = within_defined given d.object d.symbol.index d.symbol.value (DefinitionIsThere-definition_of given name d is).object_in
     by None is (Some at) e = imports at e
     by None is None e = tt
 

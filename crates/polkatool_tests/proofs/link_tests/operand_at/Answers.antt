@@ -3,5 +3,5 @@ use Rattle.polkatool_tests.proofs.link_tests.operand_at.Goals as goal
 
 pub operand-requires : goal.operand-requires
 operand-requires g c =
-    let stands = c.relocations.ensures.each.each 0 c.in_ok-relocation.relocation.now (sym c.in_ok-relocation.ensures.value) in
-    (c.requires.0, (c.requires.1.0, (stands.0, (stands.1, sym c.in-None.ensures))))
+    let is_there = c.relocations.ensures.each.each 0 c.in_ok-relocation.relocation.now (sym c.in_ok-relocation.ensures.value) in
+    (c.requires.0, (c.requires.1.0, (is_there.0, (is_there.1, sym c.in-None.ensures))))

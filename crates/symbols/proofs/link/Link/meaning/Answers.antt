@@ -1,6 +1,6 @@
 use Rattle.std.proofs.Common.{sym, ◌∙◌}
 use Rattle.symbols.specs.Wanted.{given_of}
-use Rattle.symbols.proofs.Standing.{is_meaning}
+use Rattle.symbols.proofs.DefinitionsThere.{is_meaning}
 use Rattle.symbols.proofs.link.Link.meaning.Goals as goal
 
 pub returns : goal.returns

@@ -14,7 +14,7 @@ content_of p = record {
 }
 
 -- the table's bytes are as many as its entries take, and the mask has a bit for each byte of the code
-pub record IsProgramLent (p : program.Inside) : Type 0 where
+pub record IsProgramBorrowed (p : program.Inside) : Type 0 where
   pub width : p.width ≤ 8
   pub entries : length p.entries.now ≡ p.table_len * p.width
   pub mask : length p.mask.now ≡ (length p.code.now + 7) / 8
@@ -30,7 +30,7 @@ held_by c = record {
 }
 
 -- each field fits the bytes that it takes
-pub record IsContainerLent (c : container.Inside) : Type 0 where
+pub record IsContainerBorrowed (c : container.Inside) : Type 0 where
   pub read_only : length c.read_only.now < 2 ^ 24
   pub writable : length c.writable.now < 2 ^ 24
   pub zero_pages : c.zero_pages < 2 ^ 16

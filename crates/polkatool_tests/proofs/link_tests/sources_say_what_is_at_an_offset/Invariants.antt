@@ -1,4 +1,4 @@
-use Rattle.polkatool_tests.proofs.link_tests.sources_tell_what_is_at_an_offset.Given as goal
+use Rattle.polkatool_tests.proofs.link_tests.sources_say_what_is_at_an_offset.Given as goal
 
 abbrev pub ghost-see_sources : goal.ghost-see_sources
 ghost-see_sources g a = a.self.now

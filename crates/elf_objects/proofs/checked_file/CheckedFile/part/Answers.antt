@@ -1,6 +1,6 @@
 use Rattle.std.proofs.Common.{arith}
 use Rattle.elf_objects.proofs.Places.{first_part, part_leads}
-use Rattle.elf_objects.proofs.sound_file.SoundFile.part.Goals as goal
+use Rattle.elf_objects.proofs.checked_file.CheckedFile.part.Goals as goal
 
 pub part_at-requires-clause-some : goal.part_at-requires-clause-some
 part_at-requires-clause-some c =

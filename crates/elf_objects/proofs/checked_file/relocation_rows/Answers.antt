@@ -2,8 +2,8 @@ use Rattle.std.proofs.Common.{◌≡◌, ◌/◌, arith, refl, add-one, length, 
 use Rattle.elf_objects.specs.Headers.{header_of}
 use Rattle.elf_objects.specs.Relocations.{entry_count, is_rela}
 use Rattle.elf_objects.proofs.Rows.{indexed-start, indexed-skip, indexed-take, rela-info}
-use Rattle.elf_objects.proofs.sound_file.relocation_rows.Goals as goal
-use Rattle.elf_objects.proofs.sound_file.relocation_rows.Goals.{then-is_rela+in_ok-room+in_ok-add_part, else-is_rela}
+use Rattle.elf_objects.proofs.checked_file.relocation_rows.Goals as goal
+use Rattle.elf_objects.proofs.checked_file.relocation_rows.Goals.{then-is_rela+in_ok-room+in_ok-add_part, else-is_rela}
 
 pub loop-section-init : goal.loop-section-init
 loop-section-init c =

@@ -33,14 +33,14 @@ const MAX_RELOCATIONS: u32 = 1 << 24;
 
 /// A file without a fault, with the index of its relocations. Contracts see its bytes.
 #[derive(Drop)]
-pub struct SoundFile<'a> {
+pub struct CheckedFile<'a> {
     tables: Tables<'a>,
     section_names: NameIndex<'a>,
     symbol_names: NameIndex<'a>,
     rows: Vec<Row>,
 }
 
-impl<'a> Model for SoundFile<'a> {
+impl<'a> Model for CheckedFile<'a> {
     ghost use Rattle.std.specs.Prelude.{ℕ, List};
     ghost use Rattle.elf_objects.specs.Index.{IsRead};
 
@@ -53,12 +53,12 @@ impl<'a> Model for SoundFile<'a> {
         IsRead b f.section_names.bytes.now f.symbol_names.bytes.now f.rows.items };
 }
 
-impl<'a> SoundFile<'a> {
+impl<'a> CheckedFile<'a> {
     /// Reads the file of the object with a number in the link.
     ///
     /// # Errors
     /// `Bad` with the first fault of the file, and `Memory`.
-    pub fn read(alloc: Global, bytes: &'a [u8], index: u32) -> Result<SoundFile<'a>, ObjectFault>
+    pub fn read(alloc: Global, bytes: &'a [u8], index: u32) -> Result<CheckedFile<'a>, ObjectFault>
         requires { length bytes.now ≤ 2 ^ 24 }
         ensures { MatchResult result
             (λ file. (file ≡ bytes.now) × (faults_of bytes.now ≡ []))
@@ -67,7 +67,7 @@ impl<'a> SoundFile<'a> {
         let tables = check(bytes).map_err(|refusal| in_object(refusal, index))?;
         let rows = relocation_rows(alloc, &tables)?;
         check_rest(&tables).map_err(|refusal| in_object(refusal, index))?;
-        Ok(SoundFile {
+        Ok(CheckedFile {
             section_names: NameIndex::new(alloc, tables.names.bytes)?,
             symbol_names: NameIndex::new(alloc, tables.entry_names.bytes)?,
             tables,
