@@ -13,11 +13,11 @@ use Rattle.runs.specs.Laid.{Fetched}
 use Rattle.runs.proofs.Fuel.{one_instruction, paid_paid, CameTo, comes_first, comes_quiet, comes_to_end}
 use Rattle.machine_state.specs.Memory.{Memory}
 use Rattle.machine_state.specs.State.{State}
-use Rattle.machine_state.specs.Ends.{Event, End, Halt, Panic, Fault, Unanswered, BadReply, Answer, Answered, Ended, Host, event, called, rules}
+use Rattle.machine_state.specs.Ends.{Event, End, Halt, Panic, Fault, Unanswered, BadReply, Answer, Answered, Ended, Host, event, called, no_host, rules}
 use Rattle.pvm_machine.specs.Machine.{Machine, standing}
 use Rattle.pvm_machine.specs.Step.{Standing, instr_at, machine_step}
 use Rattle.pvm_machine.specs.Stepped.{Stepped, gone, came_out, begun, stayed, stepped, all_steps, LeadsTo, AreSteps}
-use Rattle.pvm_machine.specs.Ran.{last_answer, run_with, call_turn, IsRunWith}
+use Rattle.pvm_machine.specs.Ran.{last_answer, run_with, call_turn, IsRunWith, IsRun}
 use Rattle.pvm_machine.specs.declared.answers.Step.{Step}
 use Rattle.pvm_machine.specs.declared.answers.Step.TheVariants as answer
 use Rattle.pvm_machine.specs.declared.answers.Exit.{Exit}
@@ -232,6 +232,19 @@ module _ {Held : Type 0} (host : Host Held) (held : Held) where
   call_is_paid m next number is =
       let Paid : Stepped → Type 0 = λ r. r.machine.gas + cost r.answer ≤ m.gas in
       subst Paid (sym is) (runs_of m.gas m refl).less
+
+-- the result of the steps of a machine without a host
+pub ran : (m next : Machine) (e : Exit) → AreSteps m next (last_answer e) → IsRun m next (last_answer e)
+ran m next exit.Halt is = ran_with no_host tt m next exit.Halt is
+ran m next exit.Panic is = ran_with no_host tt m next exit.Panic is
+ran m next (exit.Fault address) is = ran_with no_host tt m next (exit.Fault address) is
+ran m next exit.OutOfGas is = ran_with no_host tt m next exit.OutOfGas is
+ran m next (exit.Host number) is =
+    let paid_for : next.gas + 1 ≤ m.gas = call_is_paid no_host tt m next number is in
+    let count : m.gas - (next.gas + 1) + 1 ≡ m.gas - next.gas = omega (arith, paid_for) in
+    ran_with no_host tt m next (exit.Host number) is
+    ∙ ap (λ (n : ℕ). record { events = event number next.state ∷ []; end = Some (Unanswered number next.state.memory); left = next.gas; begun = n }) count
+ran m next exit.Memory is = ran_with no_host tt m next exit.Memory is
 
 -- The invariant of a loop that repeats steps and answers each call: the run from s0 is the events and instructions up to
 -- now, and then the run of the machine from here, with what the host holds now.

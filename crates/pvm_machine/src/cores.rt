@@ -8,7 +8,7 @@ ghost use Rattle.machine_state.specs.Start.{pages_of};
 ghost use Rattle.pvm_machine.specs.Machine.{machine_on, HeapFits};
 ghost use Rattle.pvm_machine.specs.Lending.{LendsCoreMemory};
 ghost use Rattle.pvm_machine.specs.Stepped.{AreSteps, Costs, IsStep, Keeps};
-ghost use Rattle.pvm_machine.specs.Ran.{last_answer};
+ghost use Rattle.pvm_machine.specs.Ran.{IsRun, last_answer};
 
 use crate::answers::{Exit, Step};
 use crate::instructions::{Outcome, Registers, act_at};
@@ -48,6 +48,7 @@ impl Model for Core {
 pub fn run_core(program: &Program<'_>, core: &mut Core) -> Exit
     requires { HeapFits core.old.state }
     ensures steps { AreSteps (machine_on program.now.table program.now.code core.old) (machine_on program.now.table program.now.code core.new) (last_answer result) }
+    ensures run { IsRun (machine_on program.now.table program.now.code core.old) (machine_on program.now.table program.now.code core.new) (last_answer result) }
     ensures keeps { Keeps (machine_on program.now.table program.now.code core.old) (machine_on program.now.table program.now.code core.new) }
     ensures memory { core.old.state.heap_bound ≡ 0 → result ≢ Exit.Memory }
 {
@@ -141,6 +142,7 @@ impl Core {
     pub(crate) fn run(&mut self, program: &Program<'_>, code: &Code<'_>) -> Exit
         requires { HeapFits self.old.state }
         ensures steps { AreSteps (machine_on program.now.table code.now self.old) (machine_on program.now.table code.now self.new) (last_answer result) }
+        ensures run { IsRun (machine_on program.now.table code.now self.old) (machine_on program.now.table code.now self.new) (last_answer result) }
         ensures keeps { Keeps (machine_on program.now.table code.now self.old) (machine_on program.now.table code.now self.new) }
         ensures memory { self.old.state.heap_bound ≡ 0 → result ≢ Exit.Memory }
     {

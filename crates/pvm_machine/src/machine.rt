@@ -5,7 +5,7 @@ ghost use Rattle.machine_state.specs.State.{register, with_register};
 ghost use Rattle.machine_state.specs.Output.{output_range};
 ghost use Rattle.blob_check.specs.Starts.{is_start};
 ghost use Rattle.pvm_machine.specs.Stepped.{AreSteps, Costs, IsStep, Keeps};
-ghost use Rattle.pvm_machine.specs.Ran.{last_answer};
+ghost use Rattle.pvm_machine.specs.Ran.{IsRun, last_answer};
 ghost use Rattle.machine_state.specs.Start.{start_registers};
 ghost use Rattle.pvm_machine.specs.Started.{started};
 ghost use Rattle.pvm_machine.specs.Lending.{LendsMemory};
@@ -105,6 +105,7 @@ impl<'a> Machine<'a> {
     /// Makes steps until one does not answer `Next`, and gives its answer.
     pub fn run(&mut self) -> Exit
         ensures steps { AreSteps self.old self.new (last_answer result) }
+        ensures run { IsRun self.old self.new (last_answer result) }
         ensures keeps { Keeps self.old self.new }
     {
         self.core.run(&self.program, &self.code)
