@@ -3,18 +3,12 @@ use Rattle.std.proofs.Common.{◌≡◌, ⊎_elim, subst, ℕ, zero, suc, ◌+�
 use Rattle.std.specs.Prelude.{slice_get, ◌||◌, IsSomeAnd}
 use Rattle.std.proofs.lemmas.Bool.{cases_lt}
 use Rattle.std.proofs.lemmas.Option.{slice_get_within}
-use Rattle.std.specs.List.{AllByRecursion, filter}
-use Rattle.std.proofs.lemmas.List.{map-append}
+use Rattle.std.specs.List.{filter}
 use Rattle.symbols.specs.declared.wanted.ImportKind.{ImportKind}
 use Rattle.symbols.specs.Wanted.{Given, Import, IsHostNumber}
 use Rattle.relocs.specs.AddressMap.{needed_places, named_places}
 use Rattle.relocs.specs.Pairs.{all_places}
 use Rattle.relocs.specs.Places.{CodePlace, has, same_place}
-use Rattle.lift_blocks.specs.declared.placed_op.PlacedOp.{PlacedOp}
-use Rattle.lift_blocks.specs.Fits.{FitsInstructions}
-use Rattle.lift_blocks.specs.Listing.{AreOperations}
-use Rattle.lift_blocks.specs.Operations.{operation_at}
-use Rattle.lift_blocks.specs.PlacedOps.{placed_operation_of}
 use Rattle.lift_blocks.proofs.Order.{place_self}
 
 or_true : (b : Bool) → (b || true) ≡ true
@@ -28,22 +22,6 @@ has_at (q ∷ places) zero p e =
     let same : q ≡ p = cc in
     rw (same, place_self p) refl
 has_at (q ∷ places) (suc i) p e = rw (has_at places i p e) (or_true (same_place p q))
-
-all_push : {X : Type 0} (P : X → Type 0) (xs : List X) (x : X) → AllByRecursion P xs → P x → AllByRecursion P (xs ++ x ∷ [])
-all_push P [] x f g = (g, tt)
-all_push P (y ∷ xs) x f g = (f.0, all_push P xs x f.1 g)
-
--- one operation more
-pub operations_next :
-    (given : Given) (places more : List CodePlace) (now new : List PlacedOp) (p : CodePlace) (op : PlacedOp) → AreOperations given places now → operation_at given p ≡ Some (placed_operation_of op) → FitsInstructions (placed_operation_of op)
-    → new ≡ now ++ op ∷ [] → more ≡ places ++ p ∷ [] → AreOperations given more new
-operations_next given places more now new p op are is fits pushed next = record {
-  are =
-      ap (map (operation_at given)) next ∙ map-append (operation_at given) places (p ∷ []) ∙ ap (λ l. l ++ operation_at given p ∷ []) are.are
-      ∙ ap (λ o. map (λ (o : PlacedOp). Some (placed_operation_of o)) now ++ o ∷ []) is ∙ sym (map-append (λ (o : PlacedOp). Some (placed_operation_of o)) now (op ∷ []))
-      ∙ ap (map (λ (o : PlacedOp). Some (placed_operation_of o))) (sym pushed);
-  fit = rw pushed (all_push (λ (o : PlacedOp). FitsInstructions (placed_operation_of o)) now op are.fit fits);
-}
 
 length_filter : {X : Type 0} (test : X → Bool) (xs : List X) → length (filter test xs) ≤ length xs
 length_filter test [] = omega arith

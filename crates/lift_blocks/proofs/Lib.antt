@@ -31,3 +31,4 @@ pub mod EntrySites
 pub mod AllOperations
 pub mod PlainWords
 pub mod Onward
+pub mod Relisted

@@ -11,17 +11,15 @@ use Rattle.symbols.specs.Wanted.{Given}
 use Rattle.relocs.specs.Places.{CodePlace, same_place, has}
 use Rattle.relocs.specs.Pairs.{all_places}
 use Rattle.relocs.specs.AddressMap.{named_places, needed_places}
-use Rattle.lift_blocks.specs.declared.placed_op.PlacedOp.{PlacedOp}
 use Rattle.lift_blocks.specs.declared.site.Site.{Site}
 use Rattle.lift_blocks.specs.declared.source_op.SourceOp.{SourceOp}
 use Rattle.lift_blocks.specs.Operations.{Operation, Plain, Branch, Jal, Jalr, Pair, HostCall, Sbrk, rename, operation_at}
 use Rattle.lift_blocks.specs.Fits.{FitsInstructions}
 use Rattle.lift_blocks.specs.Kept.{site_of, operation_of, IsInRange}
 use Rattle.lift_blocks.specs.Listed.{Lifted, IsLifted, aimed_places, onward_places, entry_places, target_in, target_at, target_of, is_end, is_emitted, code_places, ends_at, ends_block, starts, place, or_nowhere}
-use Rattle.lift_blocks.specs.Listing.{AreOperations, AreListed, IsNumberOf, AreNumbersOf, HasTargetIn, IsNumbered, AreNumbered, begins_from, placed_operations}
+use Rattle.lift_blocks.specs.Listing.{AreOperations, AreListed, IsNumberOf, AreNumbersOf, HasTargetIn, IsNumbered, AreNumbered, begins_from, at_places, HaveTargetsIn}
 use Rattle.lift_blocks.specs.Marks.{with_marks, chosen}
 use Rattle.lift_blocks.specs.Rank.{rank_of, Ascends}
-use Rattle.lift_blocks.specs.PlacedOps.{placed_operation_of}
 use Rattle.std.proofs.lemmas.Bool.{ltb-true}
 use Rattle.lift_blocks.proofs.Finding.{place_same}
 use Rattle.lift_blocks.proofs.Marking.{has_these, tail}
@@ -59,6 +57,10 @@ pub map_more : {X Y : Type 0} (f : X → Y) (xs : List X) (i : ℕ) (x : X) (now
 map_more f xs i x now new y e was is added =
     added ∙ ap (λ l. l ++ y ∷ []) was ∙ ap (λ z. map f (take i xs) ++ z ∷ []) is ∙ sym (map_append f (take i xs) (x ∷ [])) ∙ ap (map f) (sym (take_next xs i x e))
 
+all_push : {X : Type 0} (P : X → Type 0) (xs : List X) (x : X) → AllByRecursion P xs → P x → AllByRecursion P (xs ++ x ∷ [])
+all_push P [] x f g = (g, tt)
+all_push P (y ∷ xs) x f g = (f.0, all_push P xs x f.1 g)
+
 pub take_all : {X : Type 0} (xs : List X) (n : ℕ) → length xs ≤ n → take n xs ≡ xs
 take_all [] zero le = refl
 take_all [] (suc n) le = refl
@@ -71,21 +73,55 @@ listed_next now new rest more all x was is next = ap (λ l. l ++ more) is ∙ ap
 
 -- ---- operations at places
 
-module _ (given : Given) (ps : List CodePlace) (ops : List PlacedOp) (are : AreOperations given ps ops) where
-  targets_are : filter_map (target_at given) ps ≡ filter_map target_of (placed_operations ops)
+-- they are the operations at these places
+abbrev pub AreAt : Given → List CodePlace → List (Operation CodePlace) → Type 0
+AreAt given ps ops = map (operation_at given) ps ≡ map (λ (op : Operation CodePlace). Some op) ops
+
+module _ (given : Given) (ps : List CodePlace) (ops : List (Operation CodePlace)) (are : AreAt given ps ops) where
+  targets_are : filter_map (target_at given) ps ≡ filter_map target_of ops
   targets_are =
-      sym (filter_map-map target_in (operation_at given) ps) ∙ ap (filter_map target_in) are.are
-      ∙ filter_map-map target_in (λ (o : PlacedOp). Some (placed_operation_of o)) ops ∙ sym (filter_map-map target_of placed_operation_of ops)
+      sym (filter_map-map target_in (operation_at given) ps) ∙ ap (filter_map target_in) are
+      ∙ filter_map-map target_in (λ (op : Operation CodePlace). Some op) ops
 
   pub count : length ps ≡ length ops
-  count = sym (length-map ps (operation_at given)) ∙ ap length are.are ∙ length-map ops (λ (o : PlacedOp). Some (placed_operation_of o))
+  count = sym (length-map ps (operation_at given)) ∙ ap length are ∙ length-map ops (λ (op : Operation CodePlace). Some op)
 
-  pub operation_is : (i : ℕ) (p : CodePlace) (o : PlacedOp) → slice_get ps i ≡ Some p → slice_get ops i ≡ Some o → operation_at given p ≡ Some (placed_operation_of o)
-  operation_is i p o e f =
+  pub operation_is : (i : ℕ) (p : CodePlace) (op : Operation CodePlace) → slice_get ps i ≡ Some p → slice_get ops i ≡ Some op → operation_at given p ≡ Some op
+  operation_is i p op e f =
       let left : slice_get (map (operation_at given) ps) i ≡ Some (operation_at given p) = slice_get-map (operation_at given) ps i ∙ ap (option_map (operation_at given)) e in
-      let right : slice_get (map (λ (o : PlacedOp). Some (placed_operation_of o)) ops) i ≡ Some (Some (placed_operation_of o)) = slice_get-map (λ (o : PlacedOp). Some (placed_operation_of o)) ops i ∙ ap (option_map (λ (o : PlacedOp). Some (placed_operation_of o))) f in
-      let both = sym left ∙ ap (λ l. slice_get l i) are.are ∙ right in
+      let right : slice_get (map (λ (op : Operation CodePlace). Some op) ops) i ≡ Some (Some op) = slice_get-map (λ (op : Operation CodePlace). Some op) ops i ∙ ap (option_map (λ (op : Operation CodePlace). Some op)) f in
+      let both = sym left ∙ ap (λ l. slice_get l i) are ∙ right in
       cc
+
+-- operations with numbers are as many as those with places
+pub count_places : (places : List CodePlace) (ops : List SourceOp) → length (at_places places ops) ≡ length ops
+count_places places ops = length-map (map operation_of ops) (rename (place places)) ∙ length-map ops operation_of
+
+pub count_ops : (given : Given) (places these : List CodePlace) (ops : List SourceOp) → AreOperations given places these ops → length these ≡ length ops
+count_ops given places these ops are = count given these (at_places places ops) are.are ∙ count_places places ops
+
+-- an operation of the list
+pub at_place : (places : List CodePlace) (ops : List SourceOp) (i : ℕ) (o : SourceOp) → slice_get ops i ≡ Some o → slice_get (at_places places ops) i ≡ Some (rename (place places) (operation_of o))
+at_place places ops i o e =
+    slice_get-map (rename (place places)) (map operation_of ops) i
+    ∙ ap (option_map (rename (place places))) (slice_get-map operation_of ops i ∙ ap (option_map operation_of) e)
+
+-- operations with numbers, one after another
+pub operations_next :
+    (given : Given) (places these more : List CodePlace) (now new : List SourceOp) (p : CodePlace) (op : Operation CodePlace) (numbered_op : SourceOp) → AreOperations given places these now → operation_at given p ≡ Some op
+    → IsNumbered places op (operation_of numbered_op) → new ≡ now ++ numbered_op ∷ [] → more ≡ these ++ p ∷ [] → AreOperations given places more new
+operations_next given places these more now new p op numbered_op was is numbered added next =
+    let listed : map operation_of new ≡ map operation_of now ++ operation_of numbered_op ∷ [] = ap (map operation_of) added ∙ map_append operation_of now (numbered_op ∷ []) in
+    let with_last : at_places places new ≡ at_places places now ++ op ∷ [] =
+    ap (map (rename (place places))) listed ∙ map_append (rename (place places)) (map operation_of now) (operation_of numbered_op ∷ []) ∙ ap (λ o. at_places places now ++ o ∷ []) numbered.is in
+    record {
+      are =
+          ap (map (operation_at given)) next ∙ map_append (operation_at given) these (p ∷ []) ∙ ap (λ l. l ++ operation_at given p ∷ []) was.are
+          ∙ ap (λ o. map (λ (op : Operation CodePlace). Some op) (at_places places now) ++ o ∷ []) is ∙ sym (map_append (λ (op : Operation CodePlace). Some op) (at_places places now) (op ∷ []))
+          ∙ ap (map (λ (op : Operation CodePlace). Some op)) (sym with_last);
+      fit = rw listed (all_push FitsInstructions (map operation_of now) (operation_of numbered_op) was.fit numbered.fits);
+      targets = rw listed (all_push (HasTargetIn (length places)) (map operation_of now) (operation_of numbered_op) was.targets numbered.target);
+    }
 
 -- the needed places, as they are chosen by their marks
 pub needed_chosen : (given : Given) (places : List Site) (needed : List Bool) → map site_of places ≡ all_places given → needed ≡ map (has (named_places given)) (all_places given) → map site_of (chosen needed places) ≡ needed_places given
@@ -94,10 +130,10 @@ needed_chosen given places needed are marked =
     sym (chosen_map site_of needed places) ∙ ap (chosen needed) are ∙ ap (λ bs. chosen bs (all_places given)) marked ∙ chosen_filter (has (named_places given)) (all_places given)
 
 -- entries, targets and needed places
-pub aimed_are : (given : Given) (ops : List PlacedOp) (entries needed : List CodePlace) → AreOperations given (all_places given) ops → entries ≡ entry_places given → needed ≡ needed_places given
-    → entries ++ filter_map target_of (placed_operations ops) ++ needed ≡ aimed_places given
+pub aimed_are : (given : Given) (ops : List (Operation CodePlace)) (entries needed : List CodePlace) → AreAt given (all_places given) ops → entries ≡ entry_places given → needed ≡ needed_places given
+    → entries ++ filter_map target_of ops ++ needed ≡ aimed_places given
 aimed_are given ops entries needed are entries_are needed_are =
-    let targets = filter_map target_of (placed_operations ops) in
+    let targets = filter_map target_of ops in
     ap (λ l. l ++ targets ++ needed) entries_are ∙ ap (λ l. entry_places given ++ l ++ needed) (sym (targets_are given (all_places given) ops are))
     ∙ ap (λ l. entry_places given ++ filter_map (target_at given) (all_places given) ++ l) needed_are
 
@@ -149,15 +185,15 @@ begins_renamed f ended [] ops = refl
 begins_renamed f ended (b ∷ bs) [] = refl
 begins_renamed f ended (b ∷ bs) (op ∷ ops) = rw (ends_renamed f op) (ap (λ l. (ended || b) ∷ l) (begins_renamed f (ends_block op) bs ops))
 
-starts_are : (given : Given) (ended : Bool) (ps : List CodePlace) (ops : List PlacedOp) → map (operation_at given) ps ≡ map (λ o. Some (placed_operation_of o)) ops → begins_from ended (map (has (aimed_places given)) ps) (placed_operations ops) ≡ starts given ended ps
+starts_are : (given : Given) (ended : Bool) (ps : List CodePlace) (ops : List (Operation CodePlace)) → AreAt given ps ops → begins_from ended (map (has (aimed_places given)) ps) ops ≡ starts given ended ps
 starts_are given ended [] [] e = refl
-starts_are given ended [] (o ∷ ops) e = absurd cc
+starts_are given ended [] (op ∷ ops) e = absurd cc
 starts_are given ended (p ∷ ps) [] e = absurd cc
-starts_are given ended (p ∷ ps) (o ∷ ops) e =
-    let here : operation_at given p ≡ Some (placed_operation_of o) = cc in
-    let rest : map (operation_at given) ps ≡ map (λ o. Some (placed_operation_of o)) ops = cc in
-    let after : ends_at (operation_at given p) ≡ ends_block (placed_operation_of o) = ap ends_at here in
-    rw (after, starts_are given (ends_block (placed_operation_of o)) ps ops rest) refl
+starts_are given ended (p ∷ ps) (op ∷ ops) e =
+    let here : operation_at given p ≡ Some op = cc in
+    let rest : map (operation_at given) ps ≡ map (λ (op : Operation CodePlace). Some op) ops = cc in
+    let after : ends_at (operation_at given p) ≡ ends_block op = ap ends_at here in
+    rw (after, starts_are given (ends_block op) ps ops rest) refl
 
 -- ---- numbers
 
@@ -207,16 +243,12 @@ numbers_more places these now new i p number e was is added =
       are = map_append (place places) now (number ∷ []) ∙ ap (λ l. l ++ place places number ∷ []) was.are ∙ ap (λ q. take i these ++ q ∷ []) is.is;
       exist = all_push (λ number. number < length places) now number was.exist is.exists;
     })
-  where
-    all_push : (P : ℕ → Type 0) (xs : List ℕ) (x : ℕ) → AllByRecursion P xs → P x → AllByRecursion P (xs ++ x ∷ [])
-    all_push P [] x f g = (g, tt)
-    all_push P (y ∷ xs) x f g = (f.0, all_push P xs x f.1 g)
 
 pub numbers_none : (places these : List CodePlace) → AreNumbersOf places (take 0 these) []
 numbers_none places these = record { are = refl; exist = tt }
 
 -- operations with numbers, one after another
-chosen_next : {X : Type 0} (bs : List Bool) (xs : List X) (i : ℕ) (b : Bool) (x : X) → slice_get bs i ≡ Some b → slice_get xs i ≡ Some x → chosen (take (i + 1) bs) (take (i + 1) xs) ≡ chosen (take i bs) (take i xs) ++ cond b (x ∷ []) []
+pub chosen_next : {X : Type 0} (bs : List Bool) (xs : List X) (i : ℕ) (b : Bool) (x : X) → slice_get bs i ≡ Some b → slice_get xs i ≡ Some x → chosen (take (i + 1) bs) (take (i + 1) xs) ≡ chosen (take i bs) (take i xs) ++ cond b (x ∷ []) []
 chosen_next {X = X} bs xs i b x e f = ap (λ n. chosen (take n bs) (take n xs)) (add-one i) ∙ by_suc bs xs i e f
   where
     by_mark : (c : Bool) (y : X) (more rest last : List X) → more ≡ rest ++ last → cond c (y ∷ more) more ≡ cond c (y ∷ rest) rest ++ last
@@ -234,78 +266,73 @@ chosen_next {X = X} bs xs i b x e f = ap (λ n. chosen (take n bs) (take n xs)) 
 
 -- an operation that isn't listed changes nothing
 pub numbered_skip :
-    (places : List CodePlace) (emitted : List Bool) (ops : List PlacedOp) (i : ℕ) (o : PlacedOp) (now : List (Operation ℕ)) → slice_get emitted i ≡ Some false → slice_get ops i ≡ Some o
-    → AreNumbered places (placed_operations (chosen (take i emitted) (take i ops))) now → AreNumbered places (placed_operations (chosen (take (i + 1) emitted) (take (i + 1) ops))) now
-numbered_skip places emitted ops i o now mark e was =
-    subst (λ l. AreNumbered places (placed_operations l) now) (sym (append-nil (chosen (take i emitted) (take i ops))) ∙ sym (chosen_next emitted ops i false o mark e)) was
+    (places : List CodePlace) (listed : List Bool) (ops : List (Operation CodePlace)) (i : ℕ) (op : Operation CodePlace) (now : List (Operation ℕ)) → slice_get listed i ≡ Some false → slice_get ops i ≡ Some op
+    → AreNumbered places (chosen (take i listed) (take i ops)) now → AreNumbered places (chosen (take (i + 1) listed) (take (i + 1) ops)) now
+numbered_skip places listed ops i op now mark e was =
+    subst (λ l. AreNumbered places l now) (sym (append-nil (chosen (take i listed) (take i ops))) ∙ sym (chosen_next listed ops i false op mark e)) was
 
 -- and one that is listed comes with its number
 pub numbered_next :
-    (places : List CodePlace) (emitted : List Bool) (ops : List PlacedOp) (i : ℕ) (o : PlacedOp) (now new : List SourceOp) (numbered_op : SourceOp) → slice_get emitted i ≡ Some true → slice_get ops i ≡ Some o
-    → AreNumbered places (placed_operations (chosen (take i emitted) (take i ops))) (map operation_of now) → IsNumbered places (placed_operation_of o) (operation_of numbered_op) → new ≡ now ++ numbered_op ∷ []
-    → AreNumbered places (placed_operations (chosen (take (i + 1) emitted) (take (i + 1) ops))) (map operation_of new)
-numbered_next places emitted ops i o now new numbered_op mark e was is added =
-    let front = chosen (take i emitted) (take i ops) in
+    (places : List CodePlace) (listed : List Bool) (ops : List (Operation CodePlace)) (i : ℕ) (op : Operation CodePlace) (now new : List SourceOp) (numbered_op : SourceOp) → slice_get listed i ≡ Some true → slice_get ops i ≡ Some op
+    → AreNumbered places (chosen (take i listed) (take i ops)) (map operation_of now) → IsNumbered places op (operation_of numbered_op) → new ≡ now ++ numbered_op ∷ []
+    → AreNumbered places (chosen (take (i + 1) listed) (take (i + 1) ops)) (map operation_of new)
+numbered_next places listed ops i op now new numbered_op mark e was is added =
+    let front = chosen (take i listed) (take i ops) in
     let more : map operation_of new ≡ map operation_of now ++ operation_of numbered_op ∷ [] = ap (map operation_of) added ∙ map_append operation_of now (numbered_op ∷ []) in
-    rw (more, chosen_next emitted ops i true o mark e) (record {
-      are = map_append (rename (place places)) (map operation_of now) (operation_of numbered_op ∷ []) ∙ ap (λ l. l ++ rename (place places) (operation_of numbered_op) ∷ []) was.are ∙ ap (λ q. placed_operations front ++ q ∷ []) is.is
-          ∙ sym (map_append placed_operation_of front (o ∷ []));
+    rw (more, chosen_next listed ops i true op mark e) (record {
+      are = map_append (rename (place places)) (map operation_of now) (operation_of numbered_op ∷ []) ∙ ap (λ l. l ++ rename (place places) (operation_of numbered_op) ∷ []) was.are ∙ ap (λ q. front ++ q ∷ []) is.is;
       fit = all_push FitsInstructions (map operation_of now) (operation_of numbered_op) was.fit is.fits;
       targets = all_push (HasTargetIn (length places)) (map operation_of now) (operation_of numbered_op) was.targets is.target;
     })
-  where
-    all_push : (P : Operation ℕ → Type 0) (xs : List (Operation ℕ)) (x : Operation ℕ) → AllByRecursion P xs → P x → AllByRecursion P (xs ++ x ∷ [])
-    all_push P [] x f g = (g, tt)
-    all_push P (y ∷ xs) x f g = (f.0, all_push P xs x f.1 g)
 
-pub numbered_all : (places : List CodePlace) (emitted : List Bool) (ops : List PlacedOp) (i : ℕ) (found : List (Operation ℕ)) → length ops ≤ i → length emitted ≡ length ops
-    → AreNumbered places (placed_operations (chosen (take i emitted) (take i ops))) found → AreNumbered places (placed_operations (chosen emitted ops)) found
-numbered_all places emitted ops i found past same are =
-    let a = take_all emitted i (omega (arith, past, same)) in
+pub numbered_all : (places : List CodePlace) (listed : List Bool) (ops : List (Operation CodePlace)) (i : ℕ) (found : List (Operation ℕ)) → length ops ≤ i → length listed ≡ length ops
+    → AreNumbered places (chosen (take i listed) (take i ops)) found → AreNumbered places (chosen listed ops) found
+numbered_all places listed ops i found past same are =
+    let a = take_all listed i (omega (arith, past, same)) in
     let b = take_all ops i past in
-    subst (λ l. AreNumbered places (placed_operations l) found) (ap (λ m. chosen m (take i ops)) a ∙ ap (chosen emitted) b) are
+    subst (λ l. AreNumbered places l found) (ap (λ m. chosen m (take i ops)) a ∙ ap (chosen listed) b) are
 
 pub operations_none : (places : List CodePlace) → AreNumbered places [] []
 operations_none places = record { are = refl; fit = tt; targets = tt }
 
-all_at : {X : Type 0} (P : X → Type 0) (xs : List X) (i : ℕ) (x : X) → AllByRecursion P xs → slice_get xs i ≡ Some x → P x
+pub all_at : {X : Type 0} (P : X → Type 0) (xs : List X) (i : ℕ) (x : X) → AllByRecursion P xs → slice_get xs i ≡ Some x → P x
 all_at P [] i x f e = absurd cc
 all_at P (y ∷ xs) zero x f e = (let same : y ≡ x = cc in subst P same f.0)
 all_at P (y ∷ xs) (suc i) x f e = all_at P xs i x f.1 e
 
 -- ---- all together
 
-pub record IsList (given : Given) (emitted : List Bool) (ops : List PlacedOp) (lifted : Lifted) : Type 0 where
+pub record IsList (given : Given) (emitted : List Bool) (ops : List (Operation CodePlace)) (lifted : Lifted) : Type 0 where
   pub places : lifted.places ≡ chosen emitted (all_places given)
-  pub operations : AreNumbered lifted.places (placed_operations (chosen emitted ops)) lifted.ops
+  pub operations : AreNumbered lifted.places (chosen emitted ops) lifted.ops
   pub begins : lifted.begins ≡ begins_from true (chosen emitted (map (has (aimed_places given)) (all_places given))) lifted.ops
   pub entries : AreNumbersOf lifted.places (entry_places given) lifted.entries
   pub needed : AreNumbersOf lifted.places (needed_places given) lifted.needed
   pub map_is : lifted.map ≡ needed_places given
   pub imports_are : lifted.imports ≡ length given.wanted.imports
 
-pub is_lifted : (given : Given) (emitted : List Bool) (ops : List PlacedOp) (lifted : Lifted) → emitted ≡ map (is_emitted given) (all_places given) → AreOperations given (all_places given) ops → IsList given emitted ops lifted → IsLifted given lifted
+pub is_lifted : (given : Given) (emitted : List Bool) (ops : List (Operation CodePlace)) (lifted : Lifted) → emitted ≡ map (is_emitted given) (all_places given) → AreAt given (all_places given) ops → IsList given emitted ops lifted → IsLifted given lifted
 unfolding code_places
 is_lifted given emitted ops lifted marked are list =
     let ps = all_places given in
     let out = chosen emitted ps in
     let chosen_ops = chosen emitted ops in
     let code : out ≡ code_places given = ap (λ bs. chosen bs ps) marked ∙ chosen_filter (is_emitted given) ps in
-    let same : map (operation_at given) out ≡ map (λ (o : PlacedOp). Some (placed_operation_of o)) chosen_ops =
-    sym (chosen_map (operation_at given) emitted ps) ∙ ap (chosen emitted) are.are ∙ chosen_map (λ (o : PlacedOp). Some (placed_operation_of o)) emitted ops in
-    let count_out : length out ≡ length chosen_ops = sym (length-map out (operation_at given)) ∙ ap length same ∙ length-map chosen_ops (λ (o : PlacedOp). Some (placed_operation_of o)) in
-    let count_ops : length lifted.ops ≡ length chosen_ops = sym (length-map lifted.ops (rename (place lifted.places))) ∙ ap length list.operations.are ∙ length-map chosen_ops placed_operation_of in
+    let same : AreAt given out chosen_ops =
+    sym (chosen_map (operation_at given) emitted ps) ∙ ap (chosen emitted) are ∙ chosen_map (λ (op : Operation CodePlace). Some op) emitted ops in
+    let count_out : length out ≡ length chosen_ops = sym (length-map out (operation_at given)) ∙ ap length same ∙ length-map chosen_ops (λ (op : Operation CodePlace). Some op) in
+    let count_found : length lifted.ops ≡ length chosen_ops = sym (length-map lifted.ops (rename (place lifted.places))) ∙ ap length list.operations.are in
     record {
       places_are = list.places ∙ code;
-      count = count_ops ∙ sym count_out ∙ sym (ap length list.places);
+      count = count_found ∙ sym count_out ∙ sym (ap length list.places);
       ops_are = λ q op e.
           let renamed : slice_get (map (rename (place lifted.places)) lifted.ops) q ≡ Some (rename (place lifted.places) op) = slice_get-map (rename (place lifted.places)) lifted.ops q ∙ ap (option_map (rename (place lifted.places))) e in
-          let there : slice_get (placed_operations chosen_ops) q ≡ Some (rename (place lifted.places) op) = sym (ap (λ l. slice_get l q) list.operations.are) ∙ renamed in
-          at_place given lifted.places out chosen_ops q (rename (place lifted.places) op) list.places same there;
+          let there : slice_get chosen_ops q ≡ Some (rename (place lifted.places) op) = sym (ap (λ l. slice_get l q) list.operations.are) ∙ renamed in
+          by_place given lifted.places out chosen_ops q (rename (place lifted.places) op) list.places same there;
       ops_fit = λ q op e. all_at FitsInstructions lifted.ops q op list.operations.fit e;
       targets_exist = λ q t op e f. all_at (HasTargetIn (length lifted.places)) lifted.ops q op list.operations.targets e t f;
       begins_are = list.begins ∙ sym (begins_renamed (place lifted.places) true (chosen emitted (map (has (aimed_places given)) ps)) lifted.ops) ∙ ap (begins_from true (chosen emitted (map (has (aimed_places given)) ps))) list.operations.are
-          ∙ ap (λ l. begins_from true l (placed_operations chosen_ops)) (chosen_map (has (aimed_places given)) emitted ps) ∙ starts_are given true out chosen_ops same ∙ sym (ap (starts given true) list.places);
+          ∙ ap (λ l. begins_from true l chosen_ops) (chosen_map (has (aimed_places given)) emitted ps) ∙ starts_are given true out chosen_ops same ∙ sym (ap (starts given true) list.places);
       map_is = list.map_is;
       imports_are = list.imports_are;
       entries_are = list.entries.are;
@@ -314,18 +341,18 @@ is_lifted given emitted ops lifted marked are list =
       needed_exist = λ i t e. all_at (λ number. number < length lifted.places) lifted.needed i t list.needed.exist e;
     }
   where
-    at_place : (given : Given) (places out : List CodePlace) (ops : List PlacedOp) (q : ℕ) (op : Operation CodePlace) → places ≡ out → map (operation_at given) out ≡ map (λ (o : PlacedOp). Some (placed_operation_of o)) ops → slice_get (placed_operations ops) q ≡ Some op → operation_at given (place places q) ≡ Some op
-    at_place given places out ops q op are same e = rw are (by_list out ops q same e)
+    by_place : (given : Given) (places out : List CodePlace) (ops : List (Operation CodePlace)) (q : ℕ) (op : Operation CodePlace) → places ≡ out → AreAt given out ops → slice_get ops q ≡ Some op → operation_at given (place places q) ≡ Some op
+    by_place given places out ops q op are same e = rw are (by_list out ops q same e)
       where
-        by_list : (out : List CodePlace) (ops : List PlacedOp) (q : ℕ) → map (operation_at given) out ≡ map (λ (o : PlacedOp). Some (placed_operation_of o)) ops → slice_get (placed_operations ops) q ≡ Some op → operation_at given (place out q) ≡ Some op
+        by_list : (out : List CodePlace) (ops : List (Operation CodePlace)) (q : ℕ) → AreAt given out ops → slice_get ops q ≡ Some op → operation_at given (place out q) ≡ Some op
         by_list [] [] q same e = absurd cc
         by_list [] (o ∷ ops) q same e = absurd cc
         by_list (p ∷ out) [] q same e = absurd cc
         by_list (p ∷ out) (o ∷ ops) zero same e =
-            let here : operation_at given p ≡ Some (placed_operation_of o) = cc in
-            let is : placed_operation_of o ≡ op = cc in
+            let here : operation_at given p ≡ Some o = cc in
+            let is : o ≡ op = cc in
             here ∙ ap Some is
-        by_list (p ∷ out) (o ∷ ops) (suc q) same e = (let rest : map (operation_at given) out ≡ map (λ (o : PlacedOp). Some (placed_operation_of o)) ops = cc in by_list out ops q rest e)
+        by_list (p ∷ out) (o ∷ ops) (suc q) same e = (let rest : map (operation_at given) out ≡ map (λ (op : Operation CodePlace). Some op) ops = cc in by_list out ops q rest e)
 
 length_starts : (given : Given) (ended : Bool) (ps : List CodePlace) → length (starts given ended ps) ≡ length ps
 length_starts given ended [] = refl
@@ -352,17 +379,17 @@ numbers_len places these numbers are = sym (length-map numbers (place places)) �
 
 -- the list of these parts
 pub is_list :
-    (given : Given) (places listed needed : List Site) (ops : List PlacedOp) (emitted aimed named : List Bool) (entries : List CodePlace) (lifted : Lifted)
-    → map site_of places ≡ all_places given → emitted ≡ map (is_emitted given) (all_places given) → AreOperations given (all_places given) ops
+    (given : Given) (places listed needed : List Site) (ops : List (Operation CodePlace)) (emitted aimed named : List Bool) (entries : List CodePlace) (lifted : Lifted)
+    → map site_of places ≡ all_places given → emitted ≡ map (is_emitted given) (all_places given) → AreAt given (all_places given) ops
     → named ≡ map (has (named_places given)) (all_places given) → aimed ≡ chosen emitted (map (has (aimed_places given)) (all_places given)) → entries ≡ entry_places given
     → listed ≡ chosen emitted places → needed ≡ chosen named places
-    → lifted.places ≡ map site_of listed → AreNumbered (map site_of listed) (placed_operations (chosen emitted ops)) lifted.ops → lifted.begins ≡ begins_from true aimed lifted.ops
+    → lifted.places ≡ map site_of listed → AreNumbered (map site_of listed) (chosen emitted ops) lifted.ops → lifted.begins ≡ begins_from true aimed lifted.ops
     → AreNumbersOf (map site_of listed) entries lifted.entries → AreNumbersOf (map site_of listed) (map site_of needed) lifted.needed
     → lifted.map ≡ needed_places given → lifted.imports ≡ length given.wanted.imports → IsLifted given lifted
 is_list given places listed needed ops emitted aimed named entries lifted all marked are named_are aimed_are_these entries_are listed_are needed_are places_are numbered begins_are entry_numbers needed_numbers map_is imports_are =
     is_lifted given emitted ops lifted marked are (record {
       places = places_are ∙ ap (map site_of) listed_are ∙ sym (chosen_map site_of emitted places) ∙ ap (chosen emitted) all;
-      operations = subst (λ q. AreNumbered q (placed_operations (chosen emitted ops)) lifted.ops) (sym places_are) numbered;
+      operations = subst (λ q. AreNumbered q (chosen emitted ops) lifted.ops) (sym places_are) numbered;
       begins = begins_are ∙ ap (λ a. begins_from true a lifted.ops) aimed_are_these;
       entries = subst (λ q. AreNumbersOf q (entry_places given) lifted.entries) (sym places_are) (subst (λ t. AreNumbersOf (map site_of listed) t lifted.entries) entries_are entry_numbers);
       needed = subst (λ q. AreNumbersOf q (needed_places given) lifted.needed) (sym places_are)
@@ -372,8 +399,8 @@ is_list given places listed needed ops emitted aimed named entries lifted all ma
     })
 
 -- there are as many marks as operations that are listed
-pub marks_count : (given : Given) (places : List CodePlace) (emitted : List Bool) (ops : List PlacedOp) (found : List SourceOp) → AreOperations given (all_places given) ops → AreNumbered places (placed_operations (chosen emitted ops)) (map operation_of found)
+pub marks_count : (given : Given) (places : List CodePlace) (emitted : List Bool) (ops : List (Operation CodePlace)) (found : List SourceOp) → AreAt given (all_places given) ops → AreNumbered places (chosen emitted ops) (map operation_of found)
     → length (chosen emitted (map (has (aimed_places given)) (all_places given))) ≡ length found
 marks_count given places emitted ops found are numbered =
     length_chosen emitted (map (has (aimed_places given)) (all_places given)) ops (length-map (all_places given) (has (aimed_places given)) ∙ count given (all_places given) ops are)
-    ∙ sym (length-map (chosen emitted ops) placed_operation_of) ∙ sym (ap length numbered.are) ∙ length-map (map operation_of found) (rename (place places)) ∙ length-map found operation_of
+    ∙ sym (ap length numbered.are) ∙ length-map (map operation_of found) (rename (place places)) ∙ length-map found operation_of

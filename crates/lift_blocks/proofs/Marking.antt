@@ -1,6 +1,6 @@
 -- Marks at places.
-use Rattle.std.proofs.Common.{◌≡◌, ℕ, suc, ◌+◌, ◌≤◌, Bool, true, false, cond, ltb, List, [], ◌∷◌, ◌++◌, length, take, drop, map, Some, None, refl, sym, ap, ◌∙◌, arith}
-use Rattle.std.specs.Prelude.{slice_get, ◌||◌, not, replicate}
+use Rattle.std.proofs.Common.{◌≡◌, ℕ, suc, ◌+◌, ◌<◌, ◌≤◌, Option, get_or, Bool, true, false, cond, ltb, List, [], ◌∷◌, ◌++◌, length, take, drop, map, Some, None, refl, sym, ap, ◌∙◌, arith}
+use Rattle.std.specs.Prelude.{slice_get, ◌||◌, not, replicate, IfSome}
 use Rattle.std.specs.List.{position, position_or_len}
 use Rattle.std.proofs.Math.ListN.{set}
 use Rattle.std.proofs.lemmas.Bool.{ltb-false}
@@ -10,9 +10,11 @@ use Rattle.relocs.specs.Places.{CodePlace, Nowhere, same_place, has}
 use Rattle.lift_blocks.specs.declared.site.Site.{Site}
 use Rattle.lift_blocks.specs.declared.site.Site.TheVariants as site
 use Rattle.lift_blocks.specs.Kept.{site_of}
-use Rattle.lift_blocks.specs.Rank.{rank_of, Ascends}
+use Rattle.lift_blocks.specs.Listed.{place}
+use Rattle.lift_blocks.specs.Rank.{rank_of, Ascends, is_that}
 use Rattle.lift_blocks.specs.Marks.{with_mark, with_marks}
-use Rattle.lift_blocks.proofs.Finding.{place_same, other_rank}
+use Rattle.std.proofs.lemmas.Option.{slice_get-get_or}
+use Rattle.lift_blocks.proofs.Finding.{place_same, other_rank, found}
 use Rattle.lift_blocks.proofs.Order.{place_self}
 
 or_false : (b : Bool) → (b || false) ≡ b
@@ -142,3 +144,15 @@ written (b ∷ new) (c ∷ old) count n o =
     let rest = written new old (length new) refl (omega (arith, n, o)) in
     let at : count ≡ suc (length new) = sym n in
     rw at (ap (λ l. b ∷ l) rest)
+
+-- the place with a number is marked at it
+pub marked_number : (places : List CodePlace) (marks : List Bool) (n : ℕ) → Ascends places → length marks ≡ length places → n < length places → set marks n true ≡ with_mark places marks (place places n)
+marked_number places marks n up e lt =
+    let there = slice_get-get_or places n Nowhere lt in
+    let that : is_that (place places n) (slice_get places n) ≡ true = rw there (place_self (get_or places n Nowhere)) in
+    sym (marked_found places marks (place places n) n up e (found places (place places n) n up that))
+
+-- a number that is below a count
+pub some_within : (n : ℕ) (o : Option ℕ) → ((t : ℕ) → o ≡ Some t → t < n) → IfSome o (λ t. t < n)
+some_within n None each = tt
+some_within n (Some t) each = each t refl

@@ -3,21 +3,12 @@ use Rattle.std.specs.Prelude.{◌≡◌, ℕ, ◌<◌, ◌≤◌, ◌^◌, List,
 use Rattle.std.specs.List.{AllByRecursion}
 use Rattle.symbols.specs.Wanted.{Given}
 use Rattle.relocs.specs.Places.{CodePlace}
-use Rattle.lift_blocks.specs.declared.placed_op.PlacedOp.{PlacedOp}
+use Rattle.lift_blocks.specs.declared.source_op.SourceOp.{SourceOp}
 use Rattle.lift_blocks.specs.Operations.{Operation, rename, operation_at}
 use Rattle.lift_blocks.specs.Fits.{FitsInstructions}
+use Rattle.lift_blocks.specs.Kept.{operation_of}
 use Rattle.lift_blocks.specs.Listed.{ends_block, target_of, place}
 use Rattle.lift_blocks.specs.Rank.{Ascends}
-use Rattle.lift_blocks.specs.PlacedOps.{placed_operation_of}
-
--- operations, as those of the source machine
-abbrev pub placed_operations : List PlacedOp → List (Operation CodePlace)
-placed_operations ops = map placed_operation_of ops
-
--- they are those at these places, and instructions can hold them
-pub record AreOperations (given : Given) (places : List CodePlace) (ops : List PlacedOp) : Type 0 where
-  pub are : map (operation_at given) places ≡ map (λ o. Some (placed_operation_of o)) ops
-  pub fit : AllByRecursion (λ (o : PlacedOp). FitsInstructions (placed_operation_of o)) ops
 
 -- a number names a place of the list
 pub record IsNumberOf (places : List CodePlace) (p : CodePlace) (number : ℕ) : Type 0 where
@@ -33,6 +24,20 @@ pub record IsNumbered (places : List CodePlace) (op : Operation CodePlace) (numb
   pub is : rename (place places) numbered ≡ op
   pub fits : FitsInstructions numbered
   pub target : HasTargetIn (length places) numbered
+
+-- operations, with the places that the numbers of their targets name
+abbrev pub at_places : List CodePlace → List SourceOp → List (Operation CodePlace)
+at_places places ops = map (rename (place places)) (map operation_of ops)
+
+-- their targets, if they have some, are below a count
+abbrev pub HaveTargetsIn : ℕ → List SourceOp → Type 0
+HaveTargetsIn count ops = AllByRecursion (HasTargetIn count) (map operation_of ops)
+
+-- they are the operations at these places, with numbers of places of a list as targets, and instructions can hold them
+pub record AreOperations (given : Given) (places these : List CodePlace) (ops : List SourceOp) : Type 0 where
+  pub are : map (operation_at given) these ≡ map (λ (op : Operation CodePlace). Some op) (at_places places ops)
+  pub fit : AllByRecursion FitsInstructions (map operation_of ops)
+  pub targets : HaveTargetsIn (length places) ops
 
 -- which operations begin a block: those that something leads to, and those after the end of one
 abbrev pub begins_from : {Target : Type 0} → Bool → List Bool → List (Operation Target) → List Bool

@@ -1,5 +1,5 @@
 -- Marks at places, and what is chosen by marks.
-use Rattle.std.specs.Prelude.{List, [], ◌∷◌, fold, Bool, ◌||◌, cond}
+use Rattle.std.specs.Prelude.{ℕ, suc, List, [], ◌∷◌, fold, Bool, ◌||◌, cond}
 use Rattle.relocs.specs.Places.{CodePlace, same_place}
 
 -- marks at places, with one at this place
@@ -17,3 +17,8 @@ abbrev pub chosen : {X : Type 0} → List Bool → List X → List X
 chosen [] xs = []
 chosen (b ∷ bs) [] = []
 chosen (b ∷ bs) (x ∷ xs) = cond b (x ∷ chosen bs xs) (chosen bs xs)
+
+-- for each mark, how many marked ones are before it, counted from a number
+abbrev pub counts_from : ℕ → List Bool → List ℕ
+counts_from n [] = []
+counts_from n (b ∷ bs) = n ∷ counts_from (cond b (suc n) n) bs

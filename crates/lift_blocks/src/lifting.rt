@@ -10,8 +10,9 @@ ghost use Rattle.relocs.specs.CodeFaults.{code_faults};
 ghost use Rattle.relocs.specs.ByOffset.{HasTables, AreTables};
 ghost use Rattle.relocs.specs.Pairs.{all_places};
 ghost use Rattle.lift_blocks.specs.Kept.{site_of, Refuses};
+ghost use Rattle.lift_blocks.specs.Known.{AreAll};
 ghost use Rattle.lift_blocks.specs.Listed.{Lifts};
-ghost use Rattle.lift_blocks.specs.Listing.{AreOperations};
+ghost use Rattle.lift_blocks.specs.Listing.{AreListed, AreOperations};
 ghost use Rattle.lift_blocks.specs.Lifting.{ArePlaces, IsLink, HaveSmallNumbers};
 ghost use Rattle.lift_blocks.specs.PlacedOps.{IsMachineOf};
 
@@ -22,10 +23,11 @@ use crate::lifted::Lifted;
 use crate::listing::{Survey, list};
 use crate::mapping::code_map;
 use crate::needed::named_marks;
+use crate::numbering::Numbers;
 use crate::operations::SourceMachine;
-use crate::placed_op::PlacedOp;
 use crate::reader::Reader;
 use crate::site::Site;
+use crate::source_op::SourceOp;
 use crate::surveying::survey;
 use elf_objects::Objects;
 use layout::Placed;
@@ -90,7 +92,7 @@ impl Link<'_, '_> {
             objects: self.objects,
             tables: &tables,
         };
-        self.lift_places(alloc, &reader, &places)
+        self.lift_places(alloc, &reader, places)
     }
 
     /// All places.
@@ -120,41 +122,42 @@ impl Link<'_, '_> {
         &self,
         alloc: Global,
         reader: &Reader<'_, '_>,
-        places: &Places,
+        places: Places,
     ) -> Result<Lifted, LiftFault>
         ghost given: { Given }
         requires link { IsLink given self.now }
         requires tables { AreTables given reader.now.objects.now reader.now.tables.now }
-        requires places { ArePlaces given places.now }
+        requires places { ArePlaces given places }
         ensures { MatchResult result (Lifts given) (Refuses given) }
     {
-        let map = code_map(alloc, &places.all, &places.named)?;
-        let ops = self.operations(alloc, reader, &places.all, &map)?;
+        let Places { all, named } = places;
+        let map = code_map(alloc, &all, &named)?;
+        let ops = self.operations(alloc, reader, &all, &map)?;
         let entries = entry_sites(alloc, self.resolved, self.wanted.entries())?;
         let survey = Survey {
-            places: &places.all,
-            ops: &ops,
-            needed: &places.named,
-            entries: &entries,
+            places: all,
+            ops,
+            needed: named,
+            entries,
         };
-        Ok(list(alloc, reader, &survey, map, self.wanted.imports())?)
+        Ok(list(alloc, reader, survey, map, self.wanted.imports())?)
     }
 
-    /// The operation at each place, unless the code has a fault.
+    /// The operation at each place, with numbers of places as targets, unless the code has a fault.
     fn operations(
         &self,
         alloc: Global,
         reader: &Reader<'_, '_>,
         places: &[Site],
         map: &CodeMap,
-    ) -> Result<Vec<PlacedOp>, LiftFault>
+    ) -> Result<Vec<SourceOp>, LiftFault>
         ghost given: { Given }
         requires link { IsLink given self.now }
         requires tables { AreTables given reader.now.objects.now reader.now.tables.now }
-        requires places { each site_of places.now ≡ all_places given }
+        requires places { AreAll given (each site_of places.now) }
         requires few { length places.now ≤ 2 ^ 28 }
         requires map { map.now ≡ needed_places given }
-        ensures { MatchResult result (λ ops. AreOperations given (all_places given) ops.items × (code_faults given ≡ [])) (Refuses given) }
+        ensures { MatchResult result (λ ops. AreOperations given (all_places given) (all_places given) ops.items × (code_faults given ≡ [])) (Refuses given) }
     {
         let sources = Sources::new(
             self.objects,
@@ -187,16 +190,19 @@ fn numbers_are_small(wanted: &Wanted)
 }
 
 impl SourceMachine<'_, '_, '_> {
-    /// The operation at each place.
-    fn operations(&self, alloc: Global, places: &[Site]) -> Result<Vec<PlacedOp>, AllocError>
+    /// The operation at each place, with numbers of places as targets.
+    fn operations(&self, alloc: Global, places: &[Site]) -> Result<Vec<SourceOp>, AllocError>
         ghost given: { Given }
         requires machine { IsMachineOf given self.now }
         requires places { each site_of places.now ≡ all_places given }
-        ensures { IfOk result (λ ops. AreOperations given (all_places given) ops.items) }
+        requires listed { AreListed (each site_of places.now) }
+        ensures { IfOk result (λ ops. AreOperations given (all_places given) (all_places given) ops.items) }
     {
+        let numbers = Numbers { places: &*places };
         let mut ops = Vec::with_capacity(alloc, places.len())?;
-        for place in places {
-            ops.push(self.operation(*place))?;
+        for at in 0..places.len() {
+            let placed = self.operation(places[at]);
+            ops.push(numbers.operation(placed, at)?)?;
         }
         Ok(ops)
     }

@@ -1,29 +1,26 @@
 //! The operations in code order, from the operations at all places.
 
 ghost use Rattle.std.specs.Prelude.{◌≡◌, ◌≤◌, ◌^◌, ◌||◌, ◌++◌, not, true, false, length, map, map as each, Some, IfOk};
-ghost use Rattle.std.specs.List.{AllByRecursion, filter_map};
+ghost use Rattle.std.specs.List.{filter_map};
 ghost use Rattle.std.specs.Option.{option_map};
 ghost use Rattle.symbols.specs.Wanted.{Given};
 ghost use Rattle.relocs.specs.AddressMap.{named_places, needed_places};
 ghost use Rattle.relocs.specs.ByOffset.{AreTables};
 ghost use Rattle.relocs.specs.Places.{has};
 ghost use Rattle.relocs.specs.Pairs.{all_places, is_pair, next_place as the_next_place};
-ghost use Rattle.lift_blocks.specs.Fits.{FitsInstructions};
 ghost use Rattle.lift_blocks.specs.Kept.{site_of, operation_of};
 ghost use Rattle.lift_blocks.specs.Known.{AreAll, IsKnown};
 ghost use Rattle.lift_blocks.specs.Listed.{aimed_places, onward_places, entry_places, can_go_on as may_go_on, ends_block as does_end, target_of as the_target, is_emitted, is_end as is_the_end, IsLifted, onward_of};
-ghost use Rattle.lift_blocks.specs.Listing.{AreOperations, AreListed, IsNumberOf, AreNumbersOf, IsNumbered, AreNumbered, begins_from, placed_operations};
-ghost use Rattle.lift_blocks.specs.Marks.{chosen as the_chosen, with_marks};
+ghost use Rattle.lift_blocks.specs.Listing.{AreOperations, HaveTargetsIn, at_places, begins_from};
+ghost use Rattle.lift_blocks.specs.Marks.{with_marks};
 ghost use Rattle.lift_blocks.specs.Rank.{Ascends};
-ghost use Rattle.lift_blocks.specs.declared.placed_op.PlacedOp.{PlacedOp as ThePlacedOp};
 ghost use Rattle.lift_blocks.specs.Operations.{operation_at};
-ghost use Rattle.lift_blocks.specs.PlacedOps.{placed_operation_of};
 
 use crate::lifted::Lifted;
-use crate::marks::{chosen, mark, mark_any, no_marks};
-use crate::placed_op::PlacedOp;
+use crate::marks::{chosen, mark, mark_any, mark_number, marked, no_marks};
+use crate::numbering::Numbers;
 use crate::reader::Reader;
-use crate::search::find;
+use crate::renumbering::listed_operations;
 use crate::site::Site;
 use crate::source_op::SourceOp;
 use relocs::CodeMap;
@@ -31,13 +28,14 @@ use rv_decode::RvOp;
 use std::alloc::{AllocError, Global};
 
 /// All places with their operations, which of them are needed, and the places of the entries.
-#[derive(Clone, Copy, Drop)]
-pub(crate) struct Survey<'l> {
-    pub places: &'l [Site],
-    pub ops: &'l [PlacedOp],
+#[derive(Drop)]
+pub(crate) struct Survey {
+    pub places: Vec<Site>,
+    /// The targets are numbers of places.
+    pub ops: Vec<SourceOp>,
     /// Whether a register can lead to each place.
-    pub needed: &'l [bool],
-    pub entries: &'l [Site],
+    pub needed: Vec<bool>,
+    pub entries: Vec<Site>,
 }
 
 /// The operations in code order, with the beginnings of blocks, by their numbers.
@@ -47,31 +45,37 @@ pub(crate) struct Survey<'l> {
 pub(crate) fn list(
     alloc: Global,
     reader: &Reader<'_, '_>,
-    survey: &Survey<'_>,
+    survey: Survey,
     address_map: CodeMap,
     imports: u32,
 ) -> Result<Lifted, AllocError>
     ghost given: { Given }
     requires tables { AreTables given reader.now.objects.now reader.now.tables.now }
-    requires places { AreAll given (map site_of survey.now.places.now) }
-    requires ops { AreOperations given (all_places given) survey.now.ops.now }
-    requires needed { survey.now.needed.now ≡ map (has (named_places given)) (all_places given) }
-    requires entries { map site_of survey.now.entries.now ≡ entry_places given }
-    requires few { length survey.now.places.now ≤ 2 ^ 28 }
-    requires few_entries { length survey.now.entries.now ≤ 1000 }
+    requires places { AreAll given (map site_of survey.places.items) }
+    requires ops { AreOperations given (all_places given) (all_places given) survey.ops.items }
+    requires needed { survey.needed.items ≡ map (has (named_places given)) (all_places given) }
+    requires entries { map site_of survey.entries.items ≡ entry_places given }
+    requires few { length survey.places.items ≤ 2 ^ 28 }
+    requires few_entries { length survey.entries.items ≤ 1000 }
     requires map { address_map ≡ needed_places given }
     requires imports { imports ≡ length given.wanted.imports }
     ensures { IfOk result (IsLifted given) }
 {
-    let needed = chosen(alloc, survey.places, survey.needed)?;
-    let aimed = aimed_marks(alloc, survey, &needed)?;
-    let emitted = emitted_marks(alloc, reader, survey, &aimed)?;
-    let places = chosen(alloc, survey.places, &emitted)?;
-    let aimed = chosen(alloc, &aimed, &emitted)?;
-    let numbers = Numbers { places: &places };
-    let ops = numbers.operations(alloc, survey.ops, &emitted)?;
+    let Survey {
+        places,
+        ops,
+        needed: named,
+        entries,
+    } = survey;
+    let needed = chosen(alloc, &places, &named)?;
+    let aimed = aimed_marks(alloc, &places, &ops, &entries, &needed)?;
+    let emitted = emitted_marks(alloc, reader, &places, &ops, &aimed)?;
+    let ops = listed_operations(alloc, ops, &emitted)?;
+    let places = marked(places, &emitted);
+    let aimed = marked(aimed, &emitted);
     let begins = begins(alloc, &ops, &aimed)?;
-    let entries = numbers.numbers_of(alloc, survey.entries)?;
+    let numbers = Numbers { places: &places };
+    let entries = numbers.numbers_of(alloc, &entries)?;
     let needed = numbers.numbers_of(alloc, &needed)?;
     Ok(lifted(places, ops, begins, entries, needed, address_map, imports))
 }
@@ -105,22 +109,22 @@ fn lifted(
 }
 
 /// Whether each place begins a block wherever it is: as an entry, as a target or as a needed place.
-fn aimed_marks(alloc: Global, survey: &Survey<'_>, needed: &[Site]) -> Result<Vec<bool>, AllocError>
+fn aimed_marks(
+    alloc: Global,
+    places: &[Site],
+    ops: &[SourceOp],
+    entries: &[Site],
+    needed: &[Site],
+) -> Result<Vec<bool>, AllocError>
     ghost given: { Given }
-    requires places { AreAll given (map site_of survey.now.places.now) }
-    requires ops { AreOperations given (all_places given) survey.now.ops.now }
+    requires places { AreAll given (map site_of places.now) }
+    requires ops { AreOperations given (all_places given) (all_places given) ops.now }
     requires needed { map site_of needed.now ≡ needed_places given }
-    requires entries { map site_of survey.now.entries.now ≡ entry_places given }
+    requires entries { map site_of entries.now ≡ entry_places given }
     ensures { IfOk result (λ marks. marks.items ≡ map (has (aimed_places given)) (all_places given)) }
 {
-    let mut marks = no_marks(alloc, survey.places)?;
-    mark_aimed(
-        survey.places,
-        &mut marks,
-        survey.entries,
-        survey.ops,
-        needed,
-    );
+    let mut marks = no_marks(alloc, places)?;
+    mark_aimed(places, &mut marks, entries, ops, needed);
     Ok(marks)
 }
 
@@ -130,12 +134,13 @@ fn mark_aimed(
     places: &[Site],
     marks: &mut [bool],
     entries: &[Site],
-    ops: &[PlacedOp],
+    ops: &[SourceOp],
     needed: &[Site],
 )
     requires ascends { Ascends (map site_of places.now) }
     requires count { length marks.old ≡ length places.now }
-    ensures { marks.new ≡ with_marks (map site_of places.now) marks.old (map site_of entries.now ++ filter_map the_target (placed_operations ops.now) ++ map site_of needed.now) }
+    requires targets { HaveTargetsIn (length places.now) ops.now }
+    ensures { marks.new ≡ with_marks (map site_of places.now) marks.old (map site_of entries.now ++ filter_map the_target (at_places (map site_of places.now) ops.now) ++ map site_of needed.now) }
 {
     mark_all(places, marks, entries);
     mark_targets(places, marks, ops);
@@ -154,26 +159,26 @@ fn mark_all(places: &[Site], marks: &mut [bool], these: &[Site])
 }
 
 /// Marks the targets of operations.
-fn mark_targets(places: &[Site], marks: &mut [bool], ops: &[PlacedOp])
+fn mark_targets(places: &[Site], marks: &mut [bool], ops: &[SourceOp])
     requires ascends { Ascends (map site_of places.now) }
     requires count { length marks.old ≡ length places.now }
-    ensures { marks.new ≡ with_marks (map site_of places.now) marks.old (filter_map the_target (placed_operations ops.now)) }
+    requires targets { HaveTargetsIn (length places.now) ops.now }
+    ensures { marks.new ≡ with_marks (map site_of places.now) marks.old (filter_map the_target (at_places (map site_of places.now) ops.now)) }
 {
     for at in 0..ops.len() {
-        let target = target_of(ops[at]);
-        mark_any(places, marks, target, likely(places, at, target));
+        mark_number(places, marks, target_of(ops[at]));
     }
 }
 
 /// The target of an operation, where it names one.
-fn target_of(op: PlacedOp) -> Option<Site>
-    ensures { option_map site_of result ≡ the_target (placed_operation_of op) }
+fn target_of(op: SourceOp) -> Option<u32>
+    ensures { result ≡ the_target (operation_of op) }
 {
     match op {
-        PlacedOp::Branch { target, .. }
-        | PlacedOp::Jal { target, .. }
-        | PlacedOp::Pair { target, .. } => Some(target),
-        PlacedOp::Plain(_) | PlacedOp::Jalr { .. } | PlacedOp::Host(_) | PlacedOp::Sbrk => None,
+        SourceOp::Branch { target, .. }
+        | SourceOp::Jal { target, .. }
+        | SourceOp::Pair { target, .. } => Some(target),
+        SourceOp::Plain(_) | SourceOp::Jalr { .. } | SourceOp::Host(_) | SourceOp::Sbrk => None,
     }
 }
 
@@ -181,20 +186,21 @@ fn target_of(op: PlacedOp) -> Option<Site>
 fn emitted_marks(
     alloc: Global,
     reader: &Reader<'_, '_>,
-    survey: &Survey<'_>,
+    places: &[Site],
+    ops: &[SourceOp],
     aimed: &[bool],
 ) -> Result<Vec<bool>, AllocError>
     ghost given: { Given }
     requires tables { AreTables given reader.now.objects.now reader.now.tables.now }
-    requires places { AreAll given (map site_of survey.now.places.now) }
-    requires ops { AreOperations given (all_places given) survey.now.ops.now }
+    requires places { AreAll given (map site_of places.now) }
+    requires ops { AreOperations given (all_places given) (all_places given) ops.now }
     requires aimed { aimed.now ≡ map (has (aimed_places given)) (all_places given) }
     ensures { IfOk result (λ marks. marks.items ≡ map (is_emitted given) (all_places given)) }
 {
     let mut reached = Vec::new(alloc);
     reached.extend_from_slice(aimed)?;
-    mark_onward(survey.places, &mut reached, survey.ops);
-    kept_marks(alloc, reader, survey.places, &reached)
+    mark_onward(places, &mut reached, ops);
+    kept_marks(alloc, reader, places, &reached)
 }
 
 /// Which places are listed, by which are reached.
@@ -228,10 +234,10 @@ fn is_kept(reader: &Reader<'_, '_>, place: Site, reached: bool) -> bool
 }
 
 /// Marks the places that the operation before can go on to.
-fn mark_onward(places: &[Site], marks: &mut [bool], ops: &[PlacedOp])
+fn mark_onward(places: &[Site], marks: &mut [bool], ops: &[SourceOp])
     ghost given: { Given }
     requires places { AreAll given (map site_of places.now) }
-    requires ops { AreOperations given (all_places given) ops.now }
+    requires ops { AreOperations given (all_places given) (all_places given) ops.now }
     requires count { length marks.old ≡ length places.now }
     ensures { marks.new ≡ with_marks (all_places given) marks.old (onward_places given) }
 {
@@ -241,10 +247,10 @@ fn mark_onward(places: &[Site], marks: &mut [bool], ops: &[PlacedOp])
 }
 
 /// The place after an operation, where the machine can go on to it.
-fn onward(place: Site, op: PlacedOp) -> Option<Site>
+fn onward(place: Site, op: SourceOp) -> Option<Site>
     ghost given: { Given }
     requires known { IsKnown given (site_of place) }
-    requires op { operation_at given (site_of place) ≡ Some (placed_operation_of op) }
+    requires op { option_map may_go_on (operation_at given (site_of place)) ≡ Some (may_go_on (operation_of op)) }
     ensures { option_map site_of result ≡ onward_of given (site_of place) }
 {
     if can_go_on(op) {
@@ -276,13 +282,13 @@ fn place_after(place: Site) -> Site
 }
 
 /// Whether the machine can go on to the place after an operation.
-fn can_go_on(op: PlacedOp) -> bool
-    ensures { result ≡ may_go_on (placed_operation_of op) }
+fn can_go_on(op: SourceOp) -> bool
+    ensures { result ≡ may_go_on (operation_of op) }
 {
     match op {
-        PlacedOp::Plain(op) => !matches!(op, RvOp::Trap),
-        PlacedOp::Branch { .. } | PlacedOp::Host(_) | PlacedOp::Sbrk => true,
-        PlacedOp::Jal { .. } | PlacedOp::Jalr { .. } | PlacedOp::Pair { .. } => false,
+        SourceOp::Plain(op) => !matches!(op, RvOp::Trap),
+        SourceOp::Branch { .. } | SourceOp::Host(_) | SourceOp::Sbrk => true,
+        SourceOp::Jal { .. } | SourceOp::Jalr { .. } | SourceOp::Pair { .. } => false,
     }
 }
 
@@ -335,127 +341,4 @@ fn either(ended: bool, aimed: bool) -> bool
     ensures { result ≡ (ended || aimed) }
 {
     ended || aimed
-}
-
-/// The listed places, by which operations have numbers.
-#[derive(Clone, Copy, Drop)]
-struct Numbers<'l> {
-    places: &'l [Site],
-}
-
-impl Numbers<'_> {
-    /// The number of a place among the listed ones, by one that it is likely near.
-    ///
-    /// # Errors
-    /// Where the place isn't listed.
-    fn number_of(&self, place: Site, near: usize) -> Result<u32, AllocError>
-        requires { AreListed (map site_of self.now.places.now) }
-        ensures { IfOk result (IsNumberOf (map site_of self.now.places.now) (site_of place)) }
-    {
-        match find(self.places, place, near) {
-            Some(at) => Ok(at as u32),
-            None => Err(AllocError),
-        }
-    }
-
-    /// The numbers of places. Each is likely near the one before.
-    fn numbers_of(&self, alloc: Global, these: &[Site]) -> Result<Vec<u32>, AllocError>
-        requires { AreListed (map site_of self.now.places.now) }
-        ensures { IfOk result (λ found. AreNumbersOf (map site_of self.now.places.now) (map site_of these.now) found.items) }
-    {
-        let mut found = Vec::with_capacity(alloc, these.len())?;
-        let mut near = 0;
-        for at in 0..these.len() {
-            let number = self.number_of(these[at], near)?;
-            found.push(number)?;
-            near = number as usize;
-        }
-        Ok(found)
-    }
-
-    /// The operations that are listed, with numbers as targets.
-    fn operations(
-        &self,
-        alloc: Global,
-        ops: &[PlacedOp],
-        emitted: &[bool],
-    ) -> Result<Vec<SourceOp>, AllocError>
-        requires listed { AreListed (map site_of self.now.places.now) }
-        requires count { length emitted.now ≡ length ops.now }
-        requires fit { AllByRecursion (λ (o : ThePlacedOp). FitsInstructions (placed_operation_of o)) ops.now }
-        ensures { IfOk result (λ found. AreNumbered (map site_of self.now.places.now) (placed_operations (the_chosen emitted.now ops.now)) (map operation_of found.items)) }
-    {
-        let mut found = Vec::with_capacity(alloc, self.places.len())?;
-        for at in 0..ops.len() {
-            if emitted[at] {
-                let op = self.operation(ops[at], found.len())?;
-                found.push(op)?;
-            }
-        }
-        Ok(found)
-    }
-
-    /// The operation with a number, with the number of its target.
-    fn operation(&self, op: PlacedOp, at: usize) -> Result<SourceOp, AllocError>
-        requires listed { AreListed (map site_of self.now.places.now) }
-        requires fit { FitsInstructions (placed_operation_of op) }
-        ensures { IfOk result (λ found. IsNumbered (map site_of self.now.places.now) (placed_operation_of op) (operation_of found)) }
-    {
-        Ok(match op {
-            PlacedOp::Plain(op) => SourceOp::Plain(op),
-            PlacedOp::Branch {
-                cond,
-                rs1,
-                rs2,
-                target,
-            } => SourceOp::Branch {
-                cond,
-                rs1,
-                rs2,
-                target: self.target(target, at)?,
-            },
-            PlacedOp::Jal { rd, link, target } => SourceOp::Jal {
-                rd,
-                link,
-                target: self.target(target, at)?,
-            },
-            PlacedOp::Jalr { rd, rs1, imm, link } => SourceOp::Jalr { rd, rs1, imm, link },
-            PlacedOp::Pair {
-                temp,
-                rd,
-                link,
-                target,
-            } => SourceOp::Pair {
-                temp,
-                rd,
-                link,
-                target: self.target(target, at)?,
-            },
-            PlacedOp::Host(number) => SourceOp::Host(number),
-            PlacedOp::Sbrk => SourceOp::Sbrk,
-        })
-    }
-
-    /// The number of the target of the operation with a number.
-    fn target(&self, target: Site, at: usize) -> Result<u32, AllocError>
-        requires { AreListed (map site_of self.now.places.now) }
-        ensures { IfOk result (IsNumberOf (map site_of self.now.places.now) (site_of target)) }
-    {
-        self.number_of(target, likely(self.places, at, Some(target)))
-    }
-}
-
-/// An index that the target of the operation at an index is likely near: in one section it is as many words away as the places
-/// are, but for pairs.
-fn likely(places: &[Site], at: usize, target: Option<Site>) -> usize {
-    match (places.get(at), target) {
-        (Some(Site::Code { offset, .. }), Some(Site::Code { offset: to, .. })) => {
-            if *offset <= to {
-                at.saturating_add(((to - *offset) / 4) as usize)
-            } else {
-                at.saturating_sub(((*offset - to) / 4) as usize)
-            }
-        }
-        _ => at,
-    }
 }

@@ -1,3 +1,4 @@
+use Rattle.relocs.specs.Pairs.{all_places}
 use Rattle.lift_blocks.proofs.listing.list.Given as goal
 
 abbrev pub ghost-aimed_marks : goal.ghost-aimed_marks
@@ -8,3 +9,6 @@ ghost-emitted_marks g a = g.given
 
 abbrev pub ghost-lifted : goal.ghost-lifted
 ghost-lifted g a = g.given
+
+abbrev pub ghost-listed_operations : goal.ghost-listed_operations
+ghost-listed_operations g a = all_places g.given

@@ -21,8 +21,8 @@ operations-requires g c = (
     map_is = c.requires.1.1.1.1;
     wanted_is = c.requires.0.wanted_is;
     hosts_are = λ i one e. c.numbers_are_small.ensures.each i one (ap (λ (w : Wanted). slice_get w.imports i) c.requires.0.wanted_is ∙ e);
-    few = omega (arith, few_needed g.given, ap length c.requires.1.1.0, length-map c.args.places.now site_of, c.requires.1.1.1.0);
+    few = omega (arith, few_needed g.given, ap length c.requires.1.1.0.are, length-map c.args.places.now site_of, c.requires.1.1.1.0);
     no_fault = none_in (code_faults g.given) (sym c.in_ok-fault.ensures ∙ none_is c.in_ok-fault.fault c.in_default.not-Some);
   },
-  c.requires.1.1.0,
+  (c.requires.1.1.0.are, record { ascend = c.requires.1.1.0.ascend; few = omega (arith, length-map c.args.places.now site_of, c.requires.1.1.1.0) }),
 )

@@ -6,5 +6,5 @@ use Rattle.lift_blocks.proofs.operations.SourceMachine.operations.Given as goal
 abbrev pub ghost-operation : goal.ghost-operation
 ghost-operation g a = g.given
 
-abbrev pub invariant-loop-place : goal.invariant-loop-place
-invariant-loop-place g l = AreOperations g.given (map site_of (take l.place-index l.places)) l.ops.items
+abbrev pub invariant-loop-at : goal.invariant-loop-at
+invariant-loop-at g l = AreOperations g.given (map site_of l.places) (map site_of (take l.at l.places)) l.ops.items

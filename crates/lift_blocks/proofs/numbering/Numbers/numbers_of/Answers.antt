@@ -3,7 +3,7 @@ use Rattle.lift_blocks.specs.declared.site.Site.TheVariants.{Code}
 use Rattle.lift_blocks.specs.Kept.{site_of}
 use Rattle.lift_blocks.proofs.Finding.{mapped_at}
 use Rattle.lift_blocks.proofs.ListedOps.{numbers_more}
-use Rattle.lift_blocks.proofs.listing.Numbers.numbers_of.Goals as goal
+use Rattle.lift_blocks.proofs.numbering.Numbers.numbers_of.Goals as goal
 
 pub loop-at-preserved : goal.loop-at-preserved
 loop-at-preserved c =
