@@ -42,13 +42,11 @@ pub record BytesStay (at len : ℕ) (old new : Memory) : Type 0 where
   pub modes : (writing : Bool) (address : ℕ) → page_allows writing (page_at new address) ≡ page_allows writing (page_at old address)
   pub bytes : (address : ℕ) → (address < at) ⊎ (at + len ≤ address) → byte_of new address ≡ byte_of old address
 
--- how many bytes a call may write, from the address in register 8 on: `peek` as many as register 10 says, `invoke` 112,
--- and any other none
+-- how many bytes a call may write, from the address in register 8 on
 abbrev pub written_by : ℕ → State → ℕ
 written_by number s = if nat_eq number 9 then register s 10 else (if nat_eq number 12 then 112 else 0)
 
--- what each call keeps of the state of the machine that calls: but for registers 7 and 8, the bytes that the call may write
--- and the number of pages that its memory may have, all is as before. Register 8 is changed by `invoke` alone.
+-- what a call keeps of the state of the machine that calls: all but its page limit is named here
 pub record KeepsState (number : ℕ) (old new : State) : Type 0 where
   pub registers : (at : ℕ) → at ≢ 7 → at ≢ 8 → register new at ≡ register old at
   pub eighth : number ≢ 12 → register new 8 ≡ register old 8

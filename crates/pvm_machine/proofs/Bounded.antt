@@ -1,7 +1,6 @@
 -- Without a heap no instruction brings or takes pages, and every number that a step names has 64 bits.
-use Rattle.std.proofs.Common.{◌≡◌, ℕ, zero, suc, ◌+◌, ◌-◌, ◌*◌, ◌<◌, ◌≤◌, Bool, true, false, List, [], ◌∷◌, Option, Some, None, Result, Ok, Err, refl, ap, sym, ◌∙◌, subst, arith, nat_eq}
-use Rattle.std.specs.Prelude.{if◌then◌else◌, ◌%◌, ◌/◌, ◌^◌, ◌&&◌, min, length, nat_le, nat_lt, slice_index, is_some}
-use Rattle.std.specs.Cmp.{nat_cmp_total}
+use Rattle.std.proofs.Common.{◌≡◌, ℕ, zero, suc, ◌+◌, ◌-◌, ◌*◌, ◌<◌, ◌≤◌, Bool, true, false, List, Option, Some, None, refl, sym, ◌∙◌, subst, arith, nat_eq}
+use Rattle.std.specs.Prelude.{if◌then◌else◌, ◌%◌, ◌/◌, ◌^◌, ◌&&◌, min, length, nat_le, nat_lt, slice_index}
 use Rattle.std.specs.FinMap as map
 use Rattle.std.proofs.Math.Nat.{mod-lt}
 use Rattle.std.proofs.lemmas.Bool.{ltb-true, and_parts}
@@ -11,12 +10,11 @@ use Rattle.numbers.specs.Words.{sum_64}
 use Rattle.runs.specs.Machine.{Outcome, Next, Jump, Call, Ends}
 use Rattle.runs.specs.Numbers.{halt_address, named, to_named, jump_by}
 use Rattle.runs.specs.Laid.{Fetched}
-use Rattle.machine_state.specs.Memory.{Page, Memory, page_size}
+use Rattle.machine_state.specs.Memory.{Memory, page_size}
 use Rattle.machine_state.specs.State.{State, register, with_register, with_memory}
 use Rattle.machine_state.specs.Heap.{may_end_at, with_top, sbrk}
-use Rattle.machine_state.specs.Output.{page_at}
 use Rattle.machine_state.specs.Ends.{End, Halt, Panic, Fault, Unanswered, BadReply, halt, panic}
-use Rattle.page_memory.specs.Access.{Access, Low, Fault as PageFault, is_refused, next_address, least_of, least_refused, access_of, loaded, load, stored, store, store_answer, answered, with_byte_in, with_byte, with_bytes}
+use Rattle.page_memory.specs.Access.{Low, Fault as PageFault, is_refused, next_address, least_of, least_refused, loaded, stored, answered}
 use Rattle.page_memory.specs.Outcomes.{refused, loaded_by, loads, stored_by, stores}
 use Rattle.page_memory.proofs.Outcomes.{widened_fits}
 use Rattle.page_memory.proofs.Counted.{len-with_bytes}
@@ -36,7 +34,7 @@ use Rattle.pvm_machine.specs.Operations.{operation_of}
 use Rattle.pvm_machine.specs.Effect.{bytes_of, has_sign, does, effect}
 use Rattle.pvm_machine.specs.Machine.{Machine}
 use Rattle.pvm_machine.specs.Step.{Standing, land, stands, does_at, instr_at}
-use Rattle.pvm_machine.specs.Stepped.{Stepped, came_out, begun, stayed, stepped, go_on, repeated, all_steps}
+use Rattle.pvm_machine.specs.Stepped.{Stepped, came_out, begun, stayed, stepped, go_on, repeated}
 use Rattle.pvm_machine.specs.Within.{NamesWord, IsWithin, StepsStayWithin}
 use Rattle.pvm_machine.specs.declared.answers.Step.{Step}
 use Rattle.pvm_machine.specs.declared.answers.Step.TheVariants as answer

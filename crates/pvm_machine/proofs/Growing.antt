@@ -1,14 +1,13 @@
 -- What `sbrk` makes of a machine.
-use Rattle.std.proofs.Common.{◌≡◌, ◌≢◌, ℕ, ◌+◌, ◌<◌, ◌≤◌, Bool, true, false, refl, ap, sym, ◌∙◌}
+use Rattle.std.proofs.Common.{◌≡◌, ◌≢◌, ℕ, ◌+◌, ◌<◌, ◌≤◌, Bool, true, false, refl, ap, sym}
 use Rattle.std.specs.FinMap as map
 use Rattle.std.proofs.lemmas.Bool.{leb-true, leb-false}
 use Rattle.std.specs.Prelude.{nat_le}
 use Rattle.machine_state.specs.State.{State, with_register}
 use Rattle.machine_state.specs.Start.{pages_of}
 use Rattle.machine_state.specs.Heap.{with_heap, may_end_at, with_top, sbrk}
-use Rattle.machine_state.proofs.Heap.{sbrk_none, sbrk_grows, sbrk_stays, sbrk_bounds, may_end}
-use Rattle.machine_state.specs.Hosts.{Bounds}
-use Rattle.pvm_machine.specs.Machine.{Core, Machine, machine_on}
+use Rattle.machine_state.proofs.Heap.{sbrk_none, sbrk_grows, sbrk_stays, may_end}
+use Rattle.pvm_machine.specs.Machine.{Core, machine_on}
 use Rattle.pvm_ops.specs.Listing.{Listing}
 use Rattle.std.specs.Prelude.{List}
 use Rattle.pvm_machine.specs.declared.cores.Core.TheInside.{Inside}

@@ -1,6 +1,6 @@
 -- What no step changes, from what instructions come out as.
 use Rattle.std.proofs.Common.{◌≡◌, ◌≢◌, ℕ, zero, suc, ◌+◌, ◌≤◌, Bool, true, false, List, length, Option, Some, None, Result, Ok, Err, refl, ap, sym, ◌∙◌, subst, arith, inl, inr, nat_eq}
-use Rattle.std.specs.Prelude.{◌<◌, ◌-◌, if◌then◌else◌, ◌%◌, ◌^◌, nat_le}
+use Rattle.std.specs.Prelude.{◌<◌, if◌then◌else◌, ◌%◌, ◌^◌, nat_le}
 use Rattle.std.specs.FinMap as map
 use Rattle.std.proofs.Math.ListN.{length-set}
 use Rattle.std.proofs.lemmas.Bool.{leb-true, and_parts}

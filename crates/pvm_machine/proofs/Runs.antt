@@ -1,11 +1,8 @@
 -- Steps and repeated steps: the last of them, and those that go on before it.
 use Rattle.std.proofs.Common.{◌≡◌, ℕ, zero, suc, ◌+◌, refl, ap, sym, ◌∙◌, subst, arith}
-use Rattle.runs.specs.Machine.{Next}
-use Rattle.machine_state.specs.Ends.{Halt, Panic, Fault}
 use Rattle.pvm_machine.specs.Machine.{Machine}
 use Rattle.pvm_machine.specs.Stepped.{Stepped, stayed, stepped, go_on, repeated, all_steps, IsStep, MapsPages, LeadsTo, CameTo, AreSteps, Keeps}
 use Rattle.pvm_machine.specs.Ran.{last_answer}
-use Rattle.pvm_machine.specs.declared.answers.Step.{Step}
 use Rattle.pvm_machine.specs.declared.answers.Step.TheVariants as answer
 use Rattle.pvm_machine.specs.declared.answers.Exit.{Exit}
 use Rattle.pvm_machine.specs.declared.answers.Exit.TheVariants as exit

@@ -1,5 +1,5 @@
 -- What steps under gas leave and answer (JAM Gray Paper 0.7.0, appendix A).
-use Rattle.std.specs.Prelude.{◌≡◌, ℕ, zero, suc, ◌+◌, ◌-◌, ◌<◌, ◌≤◌, ◌==◌, true, if◌then◌else◌, length, Option, Some, None}
+use Rattle.std.specs.Prelude.{◌≡◌, ℕ, zero, suc, ◌+◌, ◌-◌, ◌<◌, ◌≤◌, ◌==◌, if◌then◌else◌, length, Option, Some, None}
 use Rattle.std.specs.FinMap as map
 use Rattle.runs.specs.Machine.{Outcome, Next, Jump, Call, Ends}
 use Rattle.runs.specs.Laid.{Fetched}

@@ -4,7 +4,7 @@ use Rattle.pvm_machine.specs.Outcomes.{with_parts}
 use Rattle.pvm_machine.specs.Stepped.{stepped}
 use Rattle.pvm_machine.specs.declared.instructions.Outcome.TheVariants.{Next, Jump, Halt, Panic, Fault, Call, Sbrk}
 use Rattle.pvm_machine.specs.Machine.{Core, Machine, machine_on}
-use Rattle.pvm_machine.specs.Stepped.{Keeps, MapsPages}
+use Rattle.pvm_machine.specs.Stepped.{MapsPages}
 use Rattle.pvm_machine.proofs.Kept.{step_keeps}
 use Rattle.pvm_machine.proofs.Growing.{state_in, core_in, with_state, grown_costs, grown_goes}
 use Rattle.machine_state.specs.State.{with_register}
