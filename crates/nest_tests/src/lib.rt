@@ -4,6 +4,8 @@
 #[cfg(test)]
 mod case_tests;
 #[cfg(test)]
+mod law_tests;
+#[cfg(test)]
 mod limit_tests;
 #[cfg(test)]
 mod outer;

@@ -1,3 +1,5 @@
+ghost use Rattle.std.specs.Prelude.{◌<◌, ◌^◌, length};
+
 use blob_codec::Container;
 use inner_machines::{Nest, Served};
 use pvm_machine::Machine;
@@ -42,7 +44,9 @@ pub struct Caller {
 
 impl Caller {
     /// A machine with gas 1000 whose stack begins with a program, and no inner machine.
-    pub fn with(alloc: Global, program: &[u8]) -> Result<Caller, Fail> {
+    pub fn with(alloc: Global, program: &[u8]) -> Result<Caller, Fail>
+        requires { length program.now < 2 ^ 16 }
+    {
         let container = Container::read(&OUTER)?;
         let mut outer = Machine::start(alloc, &container, 0, &[], 1000)?;
         outer.memory_mut().copy_in(STACK as u32, program)?;
