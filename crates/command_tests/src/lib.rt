@@ -8,6 +8,8 @@ mod exec_tests;
 #[cfg(test)]
 mod fixtures;
 #[cfg(test)]
+mod generate_tests;
+#[cfg(test)]
 mod link_tests;
 #[cfg(test)]
 mod memory_tests;

@@ -1,11 +1,16 @@
-use crate::generated;
 use crate::word::{next, word_of};
+use crate::{generated, words_are_operations};
 use std::alloc::AllocError;
 
 #[test]
 fn words_of_small_seeds(rt: HostRuntime) {
     assert!(rt; word_of(next(1)) == 0x01b7_571b);
     assert!(rt; word_of(next(0)) == 0x02f6_d7b3);
+}
+
+#[test]
+fn the_law_of_words_can_be_called(_rt: HostRuntime) {
+    words_are_operations();
 }
 
 #[test]

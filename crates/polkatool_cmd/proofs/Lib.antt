@@ -9,6 +9,8 @@ mod Answering
 mod Reading
 mod Blobs
 mod Execing
+mod Generating
 mod Completing
 mod CompletingRuns
+mod CompletingGenerate
 mod CompletingAll

@@ -17,11 +17,12 @@ use Rattle.transcript.specs.Telling.{LacksMemory}
 use Rattle.link_core.specs.Faults.{input_of}
 use Rattle.link_core.specs.Runs.{source_run, machine_run}
 use Rattle.link_core.specs.Linked.{Linked}
-use Rattle.polkatool_cmd.specs.Commands.{Command, Link, Run, Exec, Check, Disassemble}
+use Rattle.polkatool_cmd.specs.Commands.{Command, Link, Run, Exec, Check, Disassemble, Generate}
 use Rattle.polkatool_cmd.specs.RunWords.{RunCommand}
 use Rattle.polkatool_cmd.specs.ExecWords.{ExecCommand}
 use Rattle.polkatool_cmd.specs.Snapshot.{Snapshot, Stream, Holds, HasFault, FailedRead}
 use Rattle.polkatool_cmd.specs.LinkAnswers.{HasObjects, LinksFiles, HasLargeFile, HasObjectFault, FailedObject, LinkComesTo}
+use Rattle.polkatool_cmd.specs.GenerateAnswers.{GenerateComesTo}
 use Rattle.polkatool_cmd.specs.BlobFaults.{first_disassemble_fault}
 use Rattle.polkatool_cmd.specs.RunFaults.{first_run_fault, first_start_fault, replies_fault}
 use Rattle.polkatool_cmd.specs.CheckFaults.{first_check_fault}
@@ -224,6 +225,11 @@ abbrev pub DisassembleComesTo : List ℕ → Answer → Snapshot → Snapshot �
 DisassembleComesTo blob answer old new =
     TextComesTo first_disassemble_fault (λ c. disassembly c.program) blob answer old new
 
+-- The result of a command that reads and writes no file: what comes of standard output; all else is as before.
+pub record OnOutput (Comes : Stream → Stream → Type 0) (old new : Snapshot) : Type 0 where
+  pub comes : Comes (record { text = old.out; puts = old.puts }) (record { text = new.out; puts = new.puts })
+  pub others : new ≡ record old { out = new.out; puts = new.puts }
+
 -- The result of the arguments: a usage error is reported as one, and all is as before.
 abbrev pub ComesTo : Option Command → Answer → Snapshot → Snapshot → Type 0
 ComesTo None answer old new = (answer ≡ answers.Usage) × (new ≡ old)
@@ -232,6 +238,7 @@ ComesTo (Some (Run run)) answer old new = RunComesTo run answer old new
 ComesTo (Some (Exec exec)) answer old new = ExecComesTo exec answer old new
 ComesTo (Some (Check blob)) answer old new = CheckComesTo blob answer old new
 ComesTo (Some (Disassemble blob)) answer old new = DisassembleComesTo blob answer old new
+ComesTo (Some (Generate asked)) answer old new = OnOutput (GenerateComesTo asked answer) old new
 
 -- the line was written to standard error, and the status is the wanted one
 pub record IsPut (line : List ℕ) (wanted status : Status) (old new : Stream) : Type 0 where
@@ -275,3 +282,4 @@ KeepsFiles (Some (Run run)) old new = new ≡ old
 KeepsFiles (Some (Exec exec)) old new = new ≡ old
 KeepsFiles (Some (Check blob)) old new = new ≡ old
 KeepsFiles (Some (Disassemble blob)) old new = new ≡ old
+KeepsFiles (Some (Generate asked)) old new = new ≡ old

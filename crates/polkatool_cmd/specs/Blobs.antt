@@ -3,6 +3,7 @@ use Rattle.std.specs.Prelude.{◌≡◌, ◌⊎◌, ℕ, ◌^◌, ◌<◌, ◌�
 use Rattle.std.specs.Io.KnownBytes.{Appends}
 use Rattle.outside.specs.Outside.{Files, Rose, Missing, AppendsFront}
 use Rattle.elf_objects.specs.declared.fault.Fault.{Fault}
+use Rattle.blob_codec.specs.Grammar.{Container, IsContainer, container_bytes}
 use Rattle.polkatool_cmd.specs.Faults.{too_large}
 use Rattle.polkatool_cmd.specs.Snapshot.{Holds, Stream}
 use Rattle.polkatool_cmd.specs.declared.answer.Answer.{Answer}
@@ -18,6 +19,10 @@ pub record HoldsTooLarge (files : Option Files) (name : List ℕ) : Type 0 where
   pub file : List ℕ
   pub held : Holds files name file
   pub len : 2 ^ 27 < length file
+
+-- the bytes are those of a container
+abbrev pub SpellsContainer : List ℕ → Type 0
+SpellsContainer bytes = (c : Container) × (bytes ≡ container_bytes c) × IsContainer c
 
 -- how a read of a blob that gave no bytes is answered, with the counts of failed reads before and after it
 abbrev pub FailsToReadBlob : Option Files → List ℕ → ℕ → ℕ → Answer → Type 0

@@ -9,6 +9,8 @@ use Rattle.polkatool_cmd.specs.RunWords.{RunCommand, run_command_of}
 use Rattle.polkatool_cmd.specs.RunRead.{run_in}
 use Rattle.polkatool_cmd.specs.ExecWords.{ExecCommand, exec_command_of}
 use Rattle.polkatool_cmd.specs.ExecRead.{exec_in}
+use Rattle.polkatool_cmd.specs.GenerateWords.{GenerateCommand, generate_command_of}
+use Rattle.polkatool_cmd.specs.GenerateRead.{generate_in}
 use Rattle.polkatool_cmd.specs.declared.commands.Command.{Command as Asked}
 use Rattle.polkatool_cmd.specs.declared.commands.Command.TheVariants as asked
 
@@ -19,6 +21,7 @@ pub data Command : Type 0 where
   Exec : (exec : ExecCommand) → Command
   Check : (blob : List ℕ) → Command
   Disassemble : (blob : List ℕ) → Command
+  Generate : (generate : GenerateCommand) → Command
 
 -- the blob that the one word after a verb names
 abbrev pub blob_of : List (List ℕ) → Option (List ℕ)
@@ -34,7 +37,8 @@ command_of (verb ∷ words) =
     else (if bytes_eq verb (codes "exec") then option_map Exec (exec_command_of words)
     else (if bytes_eq verb (codes "check") then option_map Check (blob_of words)
     else (if bytes_eq verb (codes "disassemble") then option_map Disassemble (blob_of words)
-    else None))))
+    else (if bytes_eq verb (codes "gen") then option_map Generate (generate_command_of words)
+    else None)))))
 
 -- the command that was asked for
 abbrev pub command_in : Asked → Command
@@ -43,3 +47,4 @@ command_in (asked.Run c) = Run (run_in c)
 command_in (asked.Exec c) = Exec (exec_in c)
 command_in (asked.Check blob) = Check blob.now
 command_in (asked.Disassemble blob) = Disassemble blob.now
+command_in (asked.Generate c) = Generate (generate_in c)

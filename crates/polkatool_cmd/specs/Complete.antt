@@ -9,8 +9,10 @@ use Rattle.link_core.specs.Faults.{HasNoFault}
 use Rattle.polkatool_cmd.specs.Answers.{Concludes, HoldsContainer, HoldsExec, HoldsRun}
 use Rattle.polkatool_cmd.specs.BlobFaults.{first_disassemble_fault}
 use Rattle.polkatool_cmd.specs.CheckFaults.{first_check_fault}
-use Rattle.polkatool_cmd.specs.Commands.{Command, Link, Run, Exec, Check, Disassemble}
+use Rattle.polkatool_cmd.specs.Commands.{Command, Link, Run, Exec, Check, Disassemble, Generate}
 use Rattle.polkatool_cmd.specs.ExecWords.{ExecCommand}
+use Rattle.polkatool_cmd.specs.GenerateAnswers.{IsGeneratedRun}
+use Rattle.polkatool_cmd.specs.GenerateWords.{GenerateCommand}
 use Rattle.polkatool_cmd.specs.LinkAnswers.{HasObjects}
 use Rattle.polkatool_cmd.specs.LinkWords.{LinkCommand}
 use Rattle.polkatool_cmd.specs.RunWords.{RunCommand}
@@ -62,6 +64,13 @@ pub record CanDisassemble (told : Option Files) (blob : List ℕ) (status : Stat
   pub holds : HoldsContainer first_disassemble_fault told blob container
   pub status_is : status ≡ statuses.Done
 
+-- the generated object has no fault, and the run of its program ends with this status
+pub record CanGenerate (asked : GenerateCommand) (status : Status) : Type 0 where
+  pub container : Container
+  pub run : Paid Event End
+  pub is_run : IsGeneratedRun asked container run
+  pub status_is : status ≡ status_of run.end
+
 -- What a command asks for is there and has no fault, and what it does ends with this status.
 abbrev pub Can : Option Files → Command → Status → Type 0
 Can told (Link link) status = CanLink told link status
@@ -69,6 +78,7 @@ Can told (Run run) status = CanRun told run status
 Can told (Exec exec) status = CanExec told exec status
 Can told (Check blob) status = CanCheck told blob status
 Can told (Disassemble blob) status = CanDisassemble told blob status
+Can told (Generate asked) status = CanGenerate asked status
 
 -- A command without a fault and without a failed call ends with the status of what it does, or an allocation failed.
 abbrev pub CommandsComplete : Type 0

@@ -10,6 +10,8 @@ pub mod RunWords
 pub mod ExecWords
 pub mod ExecRead
 pub mod RunRead
+pub mod GenerateWords
+pub mod GenerateRead
 pub mod Commands
 pub mod FaultNames
 pub mod Faults
@@ -18,6 +20,7 @@ pub mod Lines
 pub mod BlobFaults
 pub mod RunFaults
 pub mod CheckFaults
+pub mod GenerateAnswers
 pub mod Answers
 pub mod Complete
 pub mod Running

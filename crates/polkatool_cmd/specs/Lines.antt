@@ -1,5 +1,6 @@
 -- What the program prints.
-use Rattle.std.specs.Prelude.{ℕ, List, ◌++◌, codes}
+use Rattle.std.specs.Prelude.{ℕ, List, ◌++◌, slice_index, codes}
+use Rattle.disasm.specs.Digits.{hex_digits}
 use Rattle.transcript.specs.Lines.{number_field}
 use Rattle.elf_objects.specs.declared.fault.Fault.{Fault}
 use Rattle.polkatool_cmd.specs.FaultNames.{fault_name}
@@ -27,4 +28,23 @@ refused_line f =
     ++ number_field (codes " object=") f.object
     ++ number_field (codes " section=") f.section
     ++ number_field (codes " offset=") f.offset
+    ++ codes "\n"
+
+-- a label and the value of a register, in sixteen digits
+abbrev pub value_field : List ℕ → ℕ → List ℕ
+value_field label value = label ++ hex_digits 16 value
+
+-- The line of a generation: its seed and count, how many bytes of code its program has, how much gas the run spent, and
+-- the registers a2 to a5, which are 9 to 12, at its halt.
+unfoldable pub generated_line : ℕ → ℕ → ℕ → ℕ → List ℕ → List ℕ
+generated_line seed count code gas registers =
+    number_field (codes "gen seed=") seed
+    ++ number_field (codes " count=") count
+    ++ number_field (codes " code=") code
+    ++ number_field (codes " gas=") gas
+    ++ codes " end=halt"
+    ++ value_field (codes " a2=") (slice_index registers 9)
+    ++ value_field (codes " a3=") (slice_index registers 10)
+    ++ value_field (codes " a4=") (slice_index registers 11)
+    ++ value_field (codes " a5=") (slice_index registers 12)
     ++ codes "\n"

@@ -6,6 +6,7 @@ use crate::check::check_blob;
 use crate::commands::Command;
 use crate::disassemble::disassemble_blob;
 use crate::exec::exec;
+use crate::generate::generate;
 use crate::link_objects::link;
 use crate::run::run;
 use crate::words::{Words, command_of};
@@ -42,6 +43,7 @@ pub(crate) fn answer_to<F: Folder, O: Sink>(
         Some(Command::Exec(command)) => exec(alloc, &command, files, out),
         Some(Command::Check(blob)) => check_blob(alloc, blob, files, out),
         Some(Command::Disassemble(blob)) => disassemble_blob(alloc, blob, files, out),
+        Some(Command::Generate(command)) => generate(alloc, &command, out),
         None => Answer::Usage,
     }
 }

@@ -1,3 +1,5 @@
+ghost use Rattle.std.specs.Prelude.{◌≤◌};
+
 use crate::argument::Argument;
 use crate::link_input::LinkInput;
 
@@ -11,6 +13,7 @@ pub(crate) enum Command<'a> {
     Check(&'a str),
     /// The disassembly of a program, by the name of its file.
     Disassemble(&'a str),
+    Generate(GenerateCommand),
 }
 
 /// A link: what is linked, and the name of the output's file.
@@ -41,4 +44,12 @@ pub(crate) struct Settings<'a> {
     pub gas: u64,
     pub argument: Argument<'a>,
     pub replies: Option<&'a str>,
+}
+
+/// The generation of an object from a seed, with 1 to 1,000,000 words, which is linked and run.
+#[derive(Clone, Copy)]
+pub(crate) struct GenerateCommand {
+    pub seed: u64,
+    pub count: u32,
+    ghost within: { count ≤ 1000000 },
 }

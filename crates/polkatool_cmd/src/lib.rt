@@ -1,9 +1,9 @@
 //! The top call: a list of arguments, a folder and two sinks give a status.
 //!
 //! `specs/Commands.antt` says which arguments are a command, `specs/LinkWords.antt` which are a link, `specs/RunWords.antt`
-//! which are a run and `specs/ExecWords.antt` which are an exec, `specs/Faults.antt` which files are too large,
+//! which are a run, `specs/ExecWords.antt` which are an exec and `specs/GenerateWords.antt` which are a generation, `specs/Faults.antt` which files are too large,
 //! `specs/BlobFaults.antt` why what a file holds is no container, `specs/RunFaults.antt` and `specs/CheckFaults.antt` why a container isn't run or is no checked one, and
-//! `specs/Answers.antt` and `specs/LinkAnswers.antt` the result of each command and how it is reported. `link_core` says
+//! `specs/Answers.antt`, `specs/LinkAnswers.antt` and `specs/GenerateAnswers.antt` the result of each command and how it is reported. `link_core` says
 //! why objects aren't linked.
 #![tactic(auto)]
 
@@ -21,8 +21,11 @@ mod exec;
 mod exec_words;
 mod fault_codes;
 mod fault_names;
+mod generate;
+mod generate_words;
 mod items;
 mod laws;
+mod line;
 mod link_input;
 mod link_objects;
 mod link_words;
@@ -54,8 +57,9 @@ pub use words::Words;
 /// of FILE as replies to its host calls, by default none; the transcript of the run is written to `out` while it runs.
 /// Or they are `exec` with the options of `link` but `-o`, those of `run`, and OBJ once or more: the objects are linked, and
 /// the linked program is run as by `run`. Or they are `check BLOB`: if the container's program has no fault, `ok` and a line
-/// feed are written to `out`. Or `disassemble BLOB`: the text of the program is written to `out`, whatever a check would say. All other
-/// arguments are a usage error, for which no memory is taken.
+/// feed are written to `out`. Or `disassemble BLOB`: the text of the program is written to `out`, whatever a check would say. Or
+/// `gen SEED COUNT`: an object of COUNT random instructions is made and linked, its program is run with gas COUNT + 2, and the
+/// line of the run is written to `out`. All other arguments are a usage error, for which no memory is taken.
 pub fn polkatool<F: Folder, O: Sink, E: Sink>(
     alloc: Global,
     words: &Words,

@@ -10,7 +10,7 @@ use std::alloc::{AllocError, Global};
 use symbols::Wanted;
 
 /// The entry of a link, where the words name none.
-const DEFAULT_ENTRY: &[u8; 4] = b"main";
+pub(crate) const DEFAULT_ENTRY: &[u8; 4] = b"main";
 
 /// What is linked: the words that name it, and how many bytes the stack has, fewer than 2^24.
 #[derive(Clone, Copy)]

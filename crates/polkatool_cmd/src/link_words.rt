@@ -20,7 +20,7 @@ use outside::Bytes;
 use symbols::ImportKind;
 
 /// The bytes of a stack, where the words don't say.
-const DEFAULT_STACK: u32 = 65_536;
+pub(crate) const DEFAULT_STACK: u32 = 65_536;
 
 /// The most objects of a link.
 const MAX_OBJECTS: usize = 1024;

@@ -1,17 +1,15 @@
 //! How an answer is reported: by its status and a line on standard error.
 
-ghost use Rattle.std.specs.Prelude.{◌≡◌, ◌+◌, ◌≤◌, ◌++◌, length};
-ghost use Rattle.arrayvec.specs.ArrayString.{array_string_len};
-ghost use Rattle.transcript.specs.Lines.{number_field};
+ghost use Rattle.std.specs.Prelude.{◌≡◌};
 ghost use Rattle.polkatool_cmd.specs.Lines.{refused_line as refused_line_of};
 ghost use Rattle.polkatool_cmd.specs.Answers.{Puts, Reports};
 
 use crate::answer::Answer;
 use crate::fault_names::fault_name;
+use crate::line::{Line, push_field};
 use crate::status::Status;
 use arrayvec::ArrayString;
 use elf_objects::Fault;
-use itoa::Buffer;
 use outside::Sink;
 
 const USAGE: &str = "polkatool: bad command line\n";
@@ -19,12 +17,6 @@ const USAGE: &str = "polkatool: bad command line\n";
 const FILE_FAULT: &str = "polkatool: file fault\n";
 
 const OUT_OF_MEMORY: &str = "polkatool: out of memory\n";
-
-/// Room for the longest line.
-const LINE_LEN: usize = 256;
-
-/// Room for the digits of a number.
-const NUMBER_LEN: usize = 40;
 
 /// Reports on standard error that an allocation failed, for a caller that has no memory for the arguments. It takes no
 /// memory.
@@ -70,7 +62,7 @@ fn put_line<E: Sink>(line: &str, status: Status, err: &mut E) -> Status
 
 /// The line of a refusal, which is kept on the stack.
 #[tactic(auto, unfolding(crate::specs::Lines::refused_line))]
-fn refused_line(fault: &Fault) -> ArrayString<LINE_LEN>
+fn refused_line(fault: &Fault) -> Line
     ensures { result.bytes ≡ refused_line_of fault.now }
 {
     let mut line = ArrayString::new();
@@ -82,15 +74,4 @@ fn refused_line(fault: &Fault) -> ArrayString<LINE_LEN>
     push_field(" offset=", fault.offset, &mut line);
     line.push_str("\n");
     line
-}
-
-/// Adds a label and a number in decimal to a line.
-fn push_field(label: &str, number: u64, line: &mut ArrayString<LINE_LEN>)
-    requires { array_string_len line.old + length label.now + NUMBER_LEN ≤ LINE_LEN }
-    ensures text { line.new.bytes ≡ line.old.bytes ++ number_field label.now number }
-    ensures len { array_string_len line.new ≤ array_string_len line.old + length label.now + NUMBER_LEN }
-{
-    let mut digits = Buffer::new();
-    line.push_str(label);
-    line.push_str(digits.format(number));
 }

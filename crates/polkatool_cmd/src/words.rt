@@ -4,6 +4,7 @@ ghost use Rattle.polkatool_cmd.specs.Commands.{command_of, command_in, blob_of};
 
 use crate::commands::Command;
 use crate::exec_words::exec_command;
+use crate::generate_words::generate_command;
 use crate::link_words::link_command;
 use crate::run_words::run_command;
 use crate::values::file;
@@ -70,6 +71,8 @@ pub(crate) fn command_of(words: &Words) -> Option<Command<'_>>
         Some(Command::Check(blob_of(rest)?))
     } else if verb.as_slice() == b"disassemble".as_slice() {
         Some(Command::Disassemble(blob_of(rest)?))
+    } else if verb.as_slice() == b"gen".as_slice() {
+        Some(Command::Generate(generate_command(rest)?))
     } else {
         None
     }

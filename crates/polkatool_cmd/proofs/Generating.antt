@@ -1,0 +1,105 @@
+-- What the parts of a generation make of it.
+use Rattle.std.proofs.Common.{◌≡◌, ℕ, ◌-◌, List, [], ◌++◌, length, Option, Some, true, None, refl, sym, ap, ◌∙◌, append_assoc}
+use Rattle.std.specs.Prelude.{not, Result, Ok, Err}
+use Rattle.std.proofs.lemmas.Bool.{not-false}
+use Rattle.faults.proofs.Absent.{none-left, none-broken}
+use Rattle.runs.specs.Runs.{Paid}
+use Rattle.machine_state.specs.Ends.{Event, End, halt, no_host}
+use Rattle.blob_check.specs.Faults.{IsChecked}
+use Rattle.blob_check.specs.Starts.{is_start}
+use Rattle.blob_check.specs.declared.checking.CheckFault.TheVariants.{NoFirst}
+use Rattle.blob_codec.specs.Grammar.{Program, Container}
+use Rattle.blob_codec.specs.Reading.{container_of}
+use Rattle.blob_codec.specs.declared.fault.BlobFault.{BlobFault}
+use Rattle.blob_codec.proofs.Containers.{container_again}
+use Rattle.pvm_machine.specs.Machine.{Machine}
+use Rattle.pvm_machine.specs.Ran.{run_of, Comes}
+use Rattle.pvm_machine.specs.Started.{started}
+use Rattle.link_core.specs.Faults.{input_of, HasNoFault}
+use Rattle.link_core.specs.Linked.{IsLinked}
+use Rattle.link_core.specs.Parts.{total}
+use Rattle.link_core.specs.Runs.{machine_run}
+use Rattle.polkatool_cmd.specs.Blobs.{SpellsContainer, TellsText}
+use Rattle.polkatool_cmd.specs.GenerateAnswers.{generated_files, generated_wanted, generated_gas, IsGeneratedRun, HasHalted, HasNotHalted, line_of, GenerateComesTo}
+use Rattle.polkatool_cmd.specs.GenerateWords.{GenerateCommand}
+use Rattle.polkatool_cmd.specs.Lines.{generated_line}
+use Rattle.polkatool_cmd.specs.Snapshot.{Stream}
+use Rattle.polkatool_cmd.specs.Statuses.{status_of}
+use Rattle.polkatool_cmd.specs.declared.answer.Answer.{Answer}
+use Rattle.polkatool_cmd.specs.declared.answer.Answer.TheVariants as answers
+use Rattle.polkatool_cmd.specs.declared.status.Status.{Status}
+
+-- a line that is put together part by part
+pub parts-joined :
+    (a b c d e f g h i j l0 l1 l2 l3 l4 l5 l6 l7 l8 l9 l10 : List ℕ)
+    → l0 ≡ [] → l1 ≡ l0 ++ a → l2 ≡ l1 ++ b → l3 ≡ l2 ++ c → l4 ≡ l3 ++ d → l5 ≡ l4 ++ e → l6 ≡ l5 ++ f → l7 ≡ l6 ++ g → l8 ≡ l7 ++ h → l9 ≡ l8 ++ i → l10 ≡ l9 ++ j
+    → l10 ≡ a ++ b ++ c ++ d ++ e ++ f ++ g ++ h ++ i ++ j
+parts-joined a b c d e f g h i j l0 l1 l2 l3 l4 l5 l6 l7 l8 l9 l10 e0 e1 e2 e3 e4 e5 e6 e7 e8 e9 e10 =
+    rw (e10, e9, e8, e7, e6, e5, e4, e3, e2, e1, e0) (simp append_assoc)
+
+-- no files have no bytes
+pub total-none : (files : List (List ℕ)) → files ≡ [] → total files ≡ 0
+unfolding total
+total-none files none = ap total none
+
+-- the bytes of a container are read as one
+pub container-is_read : (bytes : List ℕ) (read : Result Container BlobFault) (fault : BlobFault) → SpellsContainer bytes → read ≡ container_of bytes → read ≡ Err fault → ⊥
+container-is_read bytes read fault spells exact is =
+    let no : ◌≡◌ {A = Result Container BlobFault} (Err fault) (Ok spells.0) = sym is ∙ exact ∙ ap container_of spells.1 ∙ container_again spells.0 spells.2 in
+    cc
+
+-- a block starts at position 0 of a checked program
+pub checked-start : (p : Program) → IsChecked p → is_start p.code 0 ≡ true
+checked-start p none = not-false (is_start p.code 0) (none-broken (not (is_start p.code 0)) NoFirst (none-left _ _ none))
+
+module _ (asked : GenerateCommand) (container : Container)
+    (no_fault : HasNoFault (generated_files asked) generated_wanted) (is_linked : IsLinked (input_of (generated_files asked) generated_wanted) container)
+    (old new : Machine) (started_is : old ≡ started container 0 [] (generated_gas asked)) (events : List Event) where
+  is_run : IsGeneratedRun asked container (machine_run no_host tt container 0 [] (generated_gas asked))
+  is_run = record { no_fault = no_fault; is_linked = is_linked; run_is = refl }
+
+  came : (end : Option End) → Comes old new events end → machine_run no_host tt container 0 [] (generated_gas asked) ≡ record { events = events; end = end; left = new.gas; begun = old.gas - new.gas }
+  came end comes = ap run_of (sym started_is) ∙ comes
+
+  -- it halted
+  pub has-halted : Comes old new events (Some (halt new.state)) → HasHalted asked container (machine_run no_host tt container 0 [] (generated_gas asked)) new.state.registers
+  has-halted comes = record { is_run = is_run; memory = new.state.memory; halts = ap (λ (r : Paid Event End). r.end) (came _ comes) }
+
+  -- its line
+  pub line-is :
+      (text : List ℕ) → Comes old new events (Some (halt new.state))
+      → text ≡ generated_line asked.seed asked.count (length container.program.code.bytes) (generated_gas asked - new.gas) new.state.registers
+      → text ≡ line_of asked container (machine_run no_host tt container 0 [] (generated_gas asked)) new.state.registers
+  line-is text comes is =
+      is
+      ∙ ap (λ left. generated_line asked.seed asked.count (length container.program.code.bytes) (generated_gas asked - left) new.state.registers)
+      (sym (ap (λ (r : Paid Event End). r.left) (came _ comes)))
+
+  -- it had another end
+  pub has-not_halted : (end : Option End) (status : Status) (out : Stream) → Comes old new events end → status_of end ≡ status → HasNotHalted asked status out out
+  has-not_halted end status out comes is = record {
+    container = container;
+    run = machine_run no_host tt container 0 [] (generated_gas asked);
+    is_run = is_run;
+    ended = ap (λ (r : Paid Event End). status_of r.end) (came end comes) ∙ is;
+    others = refl;
+  }
+
+-- a run that halted, and whose line was put
+pub GenerateComesTo-told :
+    (asked : GenerateCommand) (container : Container) (run : Paid Event End) (registers : List ℕ) (answer : Answer) (old new : Stream)
+    → HasHalted asked container run registers
+    → TellsText None (line_of asked container run registers) answer old new
+    → GenerateComesTo asked answer old new
+GenerateComesTo-told asked container run registers answers.Done old new halted told =
+    record { container = container; run = run; registers = registers; has_halted = halted; told = told.1; puts = told.2 }
+GenerateComesTo-told asked container run registers answers.Panicked old new halted told = absurd told
+GenerateComesTo-told asked container run registers answers.Faulted old new halted told = absurd told
+GenerateComesTo-told asked container run registers answers.OutOfGas old new halted told = absurd told
+GenerateComesTo-told asked container run registers answers.Unanswered old new halted told = absurd told
+GenerateComesTo-told asked container run registers answers.BadReply old new halted told = absurd told
+GenerateComesTo-told asked container run registers (answers.Refused fault) old new halted told = let no = told.0 in absurd cc
+GenerateComesTo-told asked container run registers answers.Usage old new halted told = absurd told
+GenerateComesTo-told asked container run registers answers.FileFault old new halted told =
+    record { container = container; run = run; registers = registers; has_halted = halted; told = told.1; cause = told.2 }
+GenerateComesTo-told asked container run registers answers.Memory old new halted told = absurd told
