@@ -1,7 +1,7 @@
 pub mod SignParts
 pub mod Lengths
 pub mod Skipping
-pub mod LastBlock
+pub mod Cutting
 pub mod Masks
 pub mod Table
 pub mod ReadBack

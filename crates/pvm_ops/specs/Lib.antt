@@ -5,3 +5,4 @@ pub mod Spelling
 pub mod BlockList
 pub mod Offsets
 pub mod Laws
+pub mod BlockParts

@@ -1,60 +1,16 @@
-ghost use Rattle.std.specs.Prelude.{◌≡◌, ◌<◌, ◌≤◌, ◌^◌, ◌++◌, ◌∷◌, [], length, OnOk, OnErr};
+ghost use Rattle.std.specs.Prelude.{◌≡◌, ◌<◌, ◌≤◌, ◌^◌, ◌++◌, ◌∷◌, [], length, slice_range, OnOk, OnErr};
 ghost use Rattle.pvm_ops.specs.BlockList.{block_at, change_last, empty_block, with_instr, with_target};
+ghost use Rattle.pvm_ops.specs.BlockParts.{start_of as the_start_of};
 
 use crate::instr::Instr;
 use std::alloc::{AllocError, Global};
 use std::marker::Model;
 
-/// One block: its instructions, and the block to which the last of them leads.
-#[derive(Debug, Drop)]
+/// One block: where its instructions end among those of all blocks, and the block to which the last of them leads.
+#[derive(Clone, Copy, Debug)]
 struct BasicBlock {
-    instrs: Vec<Instr>,
+    end: usize,
     target: Option<u32>,
-}
-
-impl Model for BasicBlock {
-    ghost use Rattle.pvm_ops.specs.BlockList.{Block};
-
-    ghost Value = { Block };
-
-    ghost view = { λ b. record { instrs = b.instrs.items; target = b.target } };
-}
-
-impl BasicBlock {
-    fn new(alloc: Global) -> BasicBlock
-        ensures { result ≡ empty_block }
-    {
-        BasicBlock {
-            instrs: Vec::new(alloc),
-            target: None,
-        }
-    }
-
-    fn push(&mut self, instr: Instr) -> Result<(), AllocError>
-        ensures ok { OnOk result (self.new ≡ with_instr instr self.old) }
-        ensures err { OnErr result (self.new ≡ self.old) }
-    {
-        self.instrs.push(instr)?;
-        Ok(())
-    }
-
-    fn aim(&mut self, target: u32)
-        ensures { self.new ≡ with_target target self.old }
-    {
-        self.target = Some(target);
-    }
-
-    fn instrs(&self) -> &[Instr]
-        ensures { result.now ≡ self.now.instrs }
-    {
-        self.instrs.as_slice()
-    }
-
-    fn target(&self) -> Option<u32>
-        ensures { result ≡ self.now.target }
-    {
-        self.target
-    }
 }
 
 /// A program before it has positions: blocks of instructions in the order of the code, which name one another by their
@@ -65,20 +21,23 @@ impl BasicBlock {
 /// allocation fails, a call leaves the list as it was.
 #[derive(Debug, Drop)]
 pub struct Blocks {
+    /// The instructions of all blocks, one block after another.
+    instrs: Vec<Instr>,
     blocks: Vec<BasicBlock>,
     entries: Vec<u32>,
     needed: Vec<u32>,
 }
 
 impl Model for Blocks {
-    ghost use Rattle.std.specs.Prelude.{◌≤◌, ◌^◌, vec_len};
+    ghost use Rattle.std.specs.Prelude.{◌≡◌, ◌≤◌, ◌^◌, true, length, vec_len};
     ghost use Rattle.pvm_ops.specs.BlockList.{BlockList};
+    ghost use Rattle.pvm_ops.specs.BlockParts.{blocks_from, are_cut};
 
     ghost Value = { BlockList };
 
-    ghost view = { λ l. record { blocks = l.blocks.items; entries = l.entries.items; needed = l.needed.items } };
+    ghost view = { λ l. record { blocks = blocks_from 0 l.instrs.items l.blocks.items; entries = l.entries.items; needed = l.needed.items } };
 
-    ghost invariant = { λ l. vec_len l.blocks ≤ 2 ^ 30 };
+    ghost invariant = { λ l. (vec_len l.blocks ≤ 2 ^ 30) × (are_cut 0 (length l.instrs.items) l.blocks.items ≡ true) };
 }
 
 impl Blocks {
@@ -87,6 +46,7 @@ impl Blocks {
         ensures { result ≡ record { blocks = []; entries = []; needed = [] } }
     {
         Blocks {
+            instrs: Vec::new(alloc),
             blocks: Vec::new(alloc),
             entries: Vec::new(alloc),
             needed: Vec::new(alloc),
@@ -99,8 +59,10 @@ impl Blocks {
         ensures ok { OnOk result (self.new ≡ record self.old { blocks = self.old.blocks ++ empty_block ∷ [] }) }
         ensures err { OnErr result (self.new ≡ self.old) }
     {
-        let block = BasicBlock::new(*self.blocks.allocator());
-        self.blocks.push(block)?;
+        self.blocks.push(BasicBlock {
+            end: self.instrs.len(),
+            target: None,
+        })?;
         Ok(())
     }
 
@@ -111,7 +73,8 @@ impl Blocks {
         ensures err { OnErr result (self.new ≡ self.old) }
     {
         let last = self.blocks.len() - 1;
-        self.blocks[last].push(instr)?;
+        self.instrs.push(instr)?;
+        self.blocks[last].end = self.instrs.len();
         Ok(())
     }
 
@@ -121,7 +84,7 @@ impl Blocks {
         ensures { self.new ≡ record self.old { blocks = change_last (with_target target) self.old.blocks } }
     {
         let last = self.blocks.len() - 1;
-        self.blocks[last].aim(target);
+        self.blocks[last].target = Some(target);
     }
 
     /// Adds the block of the next entry.
@@ -155,7 +118,9 @@ impl Blocks {
         requires { at < length self.now.blocks }
         ensures { result.now ≡ (block_at self.now at).instrs }
     {
-        self.blocks[at as usize].instrs()
+        let start = start_of(&self.blocks, at as usize);
+        let end = self.blocks[at as usize].end;
+        part(&self.instrs, start, end)
     }
 
     /// The target of a block, which is none exactly where it was not aimed.
@@ -163,7 +128,7 @@ impl Blocks {
         requires { at < length self.now.blocks }
         ensures { result ≡ (block_at self.now at).target }
     {
-        self.blocks[at as usize].target()
+        self.blocks[at as usize].target
     }
 
     /// The block of each entry.
@@ -179,4 +144,21 @@ impl Blocks {
     {
         self.needed.as_slice()
     }
+}
+
+/// Where the instructions of a block begin among those of all blocks.
+fn start_of(blocks: &[BasicBlock], at: usize) -> usize
+    requires { at < length blocks.now }
+    ensures { result ≡ the_start_of 0 blocks.now at }
+{
+    if at > 0 { blocks[at - 1].end } else { 0 }
+}
+
+/// The instructions from one index to another.
+fn part(instrs: &[Instr], start: usize, end: usize) -> &[Instr]
+    requires order { start ≤ end }
+    requires within { end ≤ length instrs.now }
+    ensures { result.now ≡ slice_range instrs.now start end }
+{
+    &instrs[start..end]
 }

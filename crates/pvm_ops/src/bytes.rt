@@ -59,6 +59,22 @@ impl Bytes8 {
         Ok(())
     }
 
+    /// Adds a few bytes at the end, one by one.
+    #[inline(always)]
+    pub(crate) fn append_few(&mut self, piece: &[u8]) -> Result<(), AllocError>
+        ensures ok { OnOk result (self.new ≡ self.old ++ piece.now) }
+        ensures err { OnErr result (self.new ≡ self.old) }
+    {
+        let before = self.bytes.len();
+        for byte in piece {
+            if self.bytes.push(*byte).is_err() {
+                self.bytes.truncate(before);
+                return Err(AllocError);
+            }
+        }
+        Ok(())
+    }
+
     /// Keeps the first bytes alone.
     pub(crate) fn truncate(&mut self, len: usize)
         ensures { self.new ≡ take len self.old }

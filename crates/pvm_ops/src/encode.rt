@@ -58,11 +58,11 @@ pub fn encode_into(instr: &Instr, offset_len: u8, out: &mut Bytes8) -> Result<()
         Form::RX => append_with(&[op, a], x, lx, out),
         Form::RXY => append_with_two(&[op, a + 16 * lx], x, lx, y, ly, out),
         Form::RXO => append_with_two(&[op, a + 16 * lx], x, lx, y, offset_len, out),
-        Form::RR => out.append(&[op, d + 16 * a]),
+        Form::RR => out.append_few(&[op, d + 16 * a]),
         Form::RRX => append_with(&[op, a + 16 * b], x, lx, out),
         Form::RRO => append_with(&[op, a + 16 * b], x, offset_len, out),
         Form::RRXY => append_with_two(&[op, a + 16 * b, lx], x, lx, y, ly, out),
-        Form::RRR => out.append(&[op, a + 16 * b, d]),
+        Form::RRR => out.append_few(&[op, a + 16 * b, d]),
     }
 }
 
@@ -86,6 +86,7 @@ fn least_len(value: u64) -> u8
 }
 
 /// Appends some bytes and then two numbers, each in its number of bytes, or nothing.
+#[inline(always)]
 fn append_with_two(
     head: &[u8],
     x: u64,
@@ -109,13 +110,14 @@ fn append_with_two(
 }
 
 /// Appends some bytes and then a number in `x_len` bytes, or nothing.
+#[inline(always)]
 fn append_with(head: &[u8], x: u64, x_len: u8, out: &mut Bytes8) -> Result<(), AllocError>
     requires { x_len ≤ 8 }
     ensures ok { OnOk result (out.new ≡ out.old ++ (head.now ++ little x_len x)) }
     ensures err { OnErr result (out.new ≡ out.old) }
 {
     let before = out.len();
-    out.append(head)?;
+    out.append_few(head)?;
     if let Err(refused) = append_low_bytes(x, x_len, out) {
         out.truncate(before);
         return Err(refused);
@@ -124,11 +126,12 @@ fn append_with(head: &[u8], x: u64, x_len: u8, out: &mut Bytes8) -> Result<(), A
 }
 
 /// Appends the low `len` bytes of x, the lowest first.
+#[inline(always)]
 fn append_low_bytes(x: u64, len: u8, out: &mut Bytes8) -> Result<(), AllocError>
     requires { len ≤ 8 }
     ensures ok { OnOk result (out.new ≡ out.old ++ little len x) }
     ensures err { OnErr result (out.new ≡ out.old) }
 {
     let bytes = x.to_le_bytes();
-    out.append(&bytes[..usize::from(len)])
+    out.append_few(&bytes[..usize::from(len)])
 }
