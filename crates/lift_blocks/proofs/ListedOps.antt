@@ -17,7 +17,7 @@ use Rattle.lift_blocks.specs.Operations.{Operation, Plain, Branch, Jal, Jalr, Pa
 use Rattle.lift_blocks.specs.Fits.{FitsInstructions}
 use Rattle.lift_blocks.specs.Kept.{site_of, operation_of, IsInRange}
 use Rattle.lift_blocks.specs.Listed.{Lifted, IsLifted, aimed_places, onward_places, entry_places, target_in, target_at, target_of, is_end, is_emitted, code_places, ends_at, ends_block, starts, place, or_nowhere}
-use Rattle.lift_blocks.specs.Listing.{AreOperations, AreListed, IsNumberOf, AreNumbersOf, HasTargetIn, IsNumbered, AreNumbered, begins_from, at_places, HaveTargetsIn}
+use Rattle.lift_blocks.specs.Listing.{AreOperations, AreListed, IsNumberOf, AreNumbersOf, HasTargetIn, IsNumbered, AreNumbered, begins_from, at_places}
 use Rattle.lift_blocks.specs.Marks.{with_marks, chosen}
 use Rattle.lift_blocks.specs.Rank.{rank_of, Ascends}
 use Rattle.std.proofs.lemmas.Bool.{ltb-true}

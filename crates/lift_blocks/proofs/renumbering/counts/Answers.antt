@@ -1,4 +1,4 @@
-use Rattle.std.proofs.Common.{false, Some, get_or, ap, ◌∙◌, arith}
+use Rattle.std.proofs.Common.{false, Some, ap, ◌∙◌, arith}
 use Rattle.std.proofs.lemmas.Option.{slice_get-get_or}
 use Rattle.lift_blocks.proofs.Relisted.{counts_next, counts_all}
 use Rattle.lift_blocks.proofs.renumbering.counts.Goals as goal
