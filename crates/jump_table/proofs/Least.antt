@@ -1,7 +1,7 @@
 -- Shorter offsets make shorter distances, so lengths grow from 0 to the shortest that are wide enough.
-use Rattle.std.proofs.Common.{◌≡◌, ◌⊎◌, inl, inr, ℕ, zero, suc, ◌+◌, ◌-◌, ◌<◌, ◌≤◌, ◌*◌, ◌^◌, List, [], ◌∷◌, length, Option, Some, None, Bool, true, false, ◌≢◌, get_or-set_same, get_or-set_other, refl, sym, ap, ◌∙◌, subst, ⊎_elim, arith}
+use Rattle.std.proofs.Common.{◌≡◌, ◌⊎◌, inl, inr, ℕ, zero, suc, ◌+◌, ◌-◌, ◌<◌, ◌≤◌, ◌*◌, ◌^◌, List, [], ◌∷◌, length, Option, Some, None, ◌≢◌, get_or-set_same, get_or-set_other, refl, sym, ap, ◌∙◌, subst, ⊎_elim, arith}
 use Rattle.std.specs.Prelude.{slice_get, slice_index, slice_set, sum}
-use Rattle.std.proofs.lemmas.Bool.{cases_lt, cases_eq, cases_Bool}
+use Rattle.std.proofs.lemmas.Bool.{cases_lt, cases_eq}
 use Rattle.std.proofs.lemmas.Option.{slice_get_within}
 use Rattle.std.proofs.lemmas.List.Sums.{sum_by-set, sum_by-cons}
 use Rattle.std.proofs.lemmas.Nat.{pow_pos}
@@ -147,7 +147,7 @@ fits_below shapes a b i t l s e h f =
     f
 
 -- so the least length that fits is no longer than that in any other lengths that are wide enough
-longer : (shapes : List Shape) (a b : List ℕ) (i t len : ℕ) (s : Shape) → slice_get shapes i ≡ Some s → s.target ≡ Some t → Below a b → Wide shapes b → ((l : ℕ) → l < len → FitsIn l (start shapes a i + s.front) (start shapes a t) → ⊥) → len ≤ slice_index b i
+pub longer : (shapes : List Shape) (a b : List ℕ) (i t len : ℕ) (s : Shape) → slice_get shapes i ≡ Some s → s.target ≡ Some t → Below a b → Wide shapes b → ((l : ℕ) → l < len → FitsIn l (start shapes a i + s.front) (start shapes a t) → ⊥) → len ≤ slice_index b i
 longer shapes a b i t len s e et h w shorter =
     ⊎_elim
     (λ lt. absurd (shorter (slice_index b i) lt (fits_below shapes a b i t (slice_index b i) s e h (w.fits i t s e et))))
@@ -174,21 +174,23 @@ fits_up l m from to le few f =
     subst (λ k. FitsIn k from to) n (fits_longer (m - l) l from to (omega arith) f)
 
 -- what a sweep keeps
-pub record Swept (shapes : List Shape) (from lens : List ℕ) (grew : Bool) (n : ℕ) : Type 0 where
+pub record Swept (shapes : List Shape) (from lens : List ℕ) (grown n : ℕ) : Type 0 where
   pub count : length lens ≡ length shapes
   pub rest : (k : ℕ) → n ≤ k → slice_index lens k ≡ slice_index from k
   pub most : AtMost4 lens
   pub least : NoLonger shapes from lens
-  pub grew_more : grew ≡ true → sum from < sum lens
-  pub same : grew ≡ false → lens ≡ from
-  pub fit : grew ≡ false → FitBefore shapes from n
+  pub few : grown ≤ n
+  pub grew_more : 0 < grown → sum from < sum lens
+  pub same : grown ≡ 0 → lens ≡ from
+  pub fit : grown ≡ 0 → FitBefore shapes from n
 
-pub kept : (shapes : List Shape) (from lens : List ℕ) (grew : Bool) (n : ℕ) → Swept shapes from lens grew n → ((t : ℕ) (s : Shape) → slice_get shapes n ≡ Some s → s.target ≡ Some t → FitsIn (slice_index from n) (start shapes from n + s.front) (start shapes from t)) → Swept shapes from lens grew (n + 1)
-kept shapes from lens grew n w f = record {
+pub kept : (shapes : List Shape) (from lens : List ℕ) (grown n : ℕ) → Swept shapes from lens grown n → ((t : ℕ) (s : Shape) → slice_get shapes n ≡ Some s → s.target ≡ Some t → FitsIn (slice_index from n) (start shapes from n + s.front) (start shapes from t)) → Swept shapes from lens grown (n + 1)
+kept shapes from lens grown n w f = record {
   count = w.count;
   rest = λ k le. w.rest k (omega arith);
   most = w.most;
   least = w.least;
+  few = omega (arith, w.few);
   grew_more = w.grew_more;
   same = w.same;
   fit = λ g i t s lt es et.
@@ -199,8 +201,8 @@ kept shapes from lens grew n w f = record {
       (cases_lt i n);
 }
 
-pub raised : (shapes : List Shape) (from lens : List ℕ) (grew : Bool) (n t len : ℕ) (s : Shape) → Swept shapes from lens grew n → n < length lens → slice_get shapes n ≡ Some s → s.target ≡ Some t → ((l : ℕ) → l < len → FitsIn l (start shapes from n + s.front) (start shapes from t) → ⊥) → len ≤ 4 → slice_index lens n < len → sum from ≤ sum lens → Swept shapes from (slice_set lens n len) true (n + 1)
-raised shapes from lens grew n t len s w within es et shorter few lt up = record {
+pub raised : (shapes : List Shape) (from lens : List ℕ) (grown n t len : ℕ) (s : Shape) → Swept shapes from lens grown n → n < length lens → slice_get shapes n ≡ Some s → s.target ≡ Some t → ((l : ℕ) → l < len → FitsIn l (start shapes from n + s.front) (start shapes from t) → ⊥) → len ≤ 4 → slice_index lens n < len → sum from ≤ sum lens → Swept shapes from (slice_set lens n len) (grown + 1) (n + 1)
+raised shapes from lens grown n t len s w within es et shorter few lt up = record {
   count = grind (arith, common_steps, w.count);
   rest = λ k le. let ne : k ≢ n = λ e. absurd (omega arith) in get_or-set_other lens n k _ 0 ne ∙ w.rest k (omega arith);
   most = λ k. grind (arith, common_steps, w.most k);
@@ -211,19 +213,20 @@ raised shapes from lens grew n t len s w within es et shorter few lt up = record
       (λ (e : k ≡ n). rw (e, get_or-set_same lens n len 0 within) more)
       (λ (ne : k ≡ n → ⊥). rw (get_or-set_other lens n k len 0 ne) old)
       (cases_eq k n);
+  few = omega (arith, w.few);
   grew_more = λ e. let total = sum_by-set (λ x. x) lens n len 0 within in omega arith;
-  same = λ e. absurd cc;
-  fit = λ e. absurd cc;
+  same = λ e. absurd (omega (arith, e));
+  fit = λ e. absurd (omega (arith, e));
 }
 
 -- one turn of a sweep, by the starts of the blocks
-module _ (base : ℕ) (shapes : List Shape) (from lens starts : List ℕ) (grew : Bool) (n len : ℕ) (s : Shape) (are_starts : AreShapeStarts base shapes from starts) (targets : TargetsWithin shapes) (within : n < length shapes) (is : slice_get shapes n ≡ Some s) (w : Swept shapes from lens grew n) where
+module _ (base : ℕ) (shapes : List Shape) (from lens starts : List ℕ) (grown n len : ℕ) (s : Shape) (are_starts : AreShapeStarts base shapes from starts) (targets : TargetsWithin shapes) (within : n < length shapes) (is : slice_get shapes n ≡ Some s) (w : Swept shapes from lens grown n) where
   here : slice_index lens n ≡ slice_index from n
   here = w.rest n (omega arith)
 
   no_less : sum from ≤ sum lens
   no_less =
-      ⊎_elim (λ (e : grew ≡ true). let m = w.grew_more e in omega arith) (λ (e : grew ≡ false). let m = ap sum (w.same e) in omega arith) (cases_Bool grew)
+      ⊎_elim (λ (e : 0 < grown). let m = w.grew_more e in omega arith) (λ (e : grown ≤ 0). let m = ap sum (w.same (omega (arith, e))) in omega arith) (cases_lt 0 grown)
 
   -- the positions by the starts
   at_start : (t l : ℕ) → t < length shapes → FitsIn l (slice_index starts n + s.front) (slice_index starts t) → FitsIn l (start shapes from n + s.front) (start shapes from t)
@@ -236,17 +239,17 @@ module _ (base : ℕ) (shapes : List Shape) (from lens starts : List ℕ) (grew 
       let a : base + (start shapes from n + s.front) ≡ slice_index starts n + s.front = omega (arith, are_starts.are n within) in
       subst (λ p. FitsIn l p (slice_index starts t)) a (subst (λ to. FitsIn l (base + (start shapes from n + s.front)) to) (sym (are_starts.are t lt)) (fits_later l base _ _ f))
 
-  pub sweep_raised : IsWanted s n starts len → slice_index lens n < len → Swept shapes from (slice_set lens n len) true (n + 1)
+  pub sweep_raised : IsWanted s n starts len → slice_index lens n < len → Swept shapes from (slice_set lens n len) (grown + 1) (n + 1)
   sweep_raised wanted lt = by_target s.target refl wanted
     where
-      by_target : (o : Option ℕ) → s.target ≡ o → Wanted o (slice_index starts n + s.front) starts len → Swept shapes from (slice_set lens n len) true (n + 1)
+      by_target : (o : Option ℕ) → s.target ≡ o → Wanted o (slice_index starts n + s.front) starts len → Swept shapes from (slice_set lens n len) (grown + 1) (n + 1)
       by_target None e h = absurd (omega (arith, h, lt))
       by_target (Some t) e h =
-          raised shapes from lens grew n t len s w (omega (arith, w.count)) is e
+          raised shapes from lens grown n t len s w (omega (arith, w.count)) is e
           (λ l less f. h.shorter l less (of_start t l (targets n t s is e) f)) h.most lt no_less
 
-  pub sweep_kept : IsWanted s n starts len → len ≤ slice_index lens n → Swept shapes from lens grew (n + 1)
-  sweep_kept wanted le = kept shapes from lens grew n w (λ t x ex et. by_target t x ex et s.target refl wanted)
+  pub sweep_kept : IsWanted s n starts len → len ≤ slice_index lens n → Swept shapes from lens grown (n + 1)
+  sweep_kept wanted le = kept shapes from lens grown n w (λ t x ex et. by_target t x ex et s.target refl wanted)
     where
       by_target : (t : ℕ) (x : Shape) → slice_get shapes n ≡ Some x → x.target ≡ Some t → (o : Option ℕ) → s.target ≡ o → Wanted o (slice_index starts n + s.front) starts len → FitsIn (slice_index from n) (start shapes from n + x.front) (start shapes from t)
       by_target t x ex et None e h = (let same : x ≡ s = cc in absurd cc)
@@ -258,8 +261,8 @@ module _ (base : ℕ) (shapes : List Shape) (from lens starts : List ℕ) (grew 
           (at_start t (slice_index lens n) (targets n t x ex et)
           (fits_up len (slice_index lens n) _ _ le m (subst (λ y. FitsIn len (slice_index starts n + s.front) (slice_index starts y)) to h.fits)))
 
-pub sweep_end : (shapes : List Shape) (from lens : List ℕ) (grew : Bool) (n : ℕ) → Swept shapes from lens grew n → grew ≡ false → length shapes ≤ n → (lens ≡ from) × Wide shapes lens
-sweep_end shapes from lens grew n w e le =
+pub sweep_end : (shapes : List Shape) (from lens : List ℕ) (grown n : ℕ) → Swept shapes from lens grown n → grown ≡ 0 → length shapes ≤ n → (lens ≡ from) × Wide shapes lens
+sweep_end shapes from lens grown n w e le =
     let same = w.same e in
     (same, record { most = w.most; fits = λ i t s es et. let lt = slice_get_within shapes i s es in rw same (w.fit e i t s (omega arith) es et) })
 

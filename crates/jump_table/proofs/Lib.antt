@@ -10,5 +10,6 @@ pub mod Placed
 pub mod BlockStarts
 pub mod Shaping
 pub mod Growing
+pub mod Lengthening
 pub mod Steps
 pub mod Marking

@@ -3,3 +3,4 @@ pub mod Lengths
 pub mod Laws
 pub mod Assembling
 pub mod Shapes
+pub mod Settling

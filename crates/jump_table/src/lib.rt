@@ -9,7 +9,9 @@ ghost use Rattle.jump_table.specs.Laws.{CodeIsPlaced, LengthsAreOne, TargetsAreL
 mod assembled;
 mod fault;
 mod positions;
+mod settling;
 mod shapes;
+mod slack;
 #[cfg(test)]
 mod tests;
 mod writer;

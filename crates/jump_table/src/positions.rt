@@ -4,6 +4,7 @@ ghost use Rattle.jump_table.specs.Assembling.{most_bytes, ArePositions, Refuses}
 ghost use Rattle.jump_table.specs.Shapes.{start, Wide, AreShapeStarts, TargetsWithin, AtMost4, NoLonger, IsLeastLen, IsWanted, size_with};
 
 use crate::fault::AssembleFault;
+use crate::settling::settle;
 use crate::shapes::{Shape, shapes_of};
 use pvm_ops::Blocks;
 use std::alloc::{AllocError, Global};
@@ -17,6 +18,9 @@ const ENTRY_LEN: u32 = 5;
 /// The most bytes of code.
 pub(crate) const MOST_BYTES: u32 = 0x200_0000;
 
+/// A pass has found few offsets where it has found fewer than one in so many blocks.
+const FEW: usize = 64;
+
 /// How many bytes the offset of each block takes, the position of each block, and the position after the last.
 #[derive(Drop)]
 pub(crate) struct Positions {
@@ -27,7 +31,8 @@ pub(crate) struct Positions {
 
 /// The positions of blocks whose offsets have the least lengths, or that their code is too large.
 ///
-/// All lengths begin at 0. Each offset that doesn't fit its length gets the least that it fits, until all fit.
+/// All lengths begin at 0. Each pass over all blocks gives the offsets that don't fit their lengths the least that they fit,
+/// until all fit. After a pass that finds few of them, those that come next are found without a pass.
 pub(crate) fn positions_of(alloc: Global, blocks: &Blocks) -> Result<Positions, AssembleFault>
     requires { IsAssemblable blocks.now }
     ensures { MatchResult result
@@ -44,18 +49,22 @@ pub(crate) fn positions_of(alloc: Global, blocks: &Blocks) -> Result<Positions, 
     let mut starts = vec![in alloc; 0; shapes.len()]?;
     loop {
         let end = place(base, &shapes, &lengths, &mut starts)?;
-        if !grow(&shapes, &starts, &mut lengths) {
+        let grown = grow(&shapes, &starts, &mut lengths);
+        if grown == 0 {
             return Ok(Positions {
                 lengths,
                 starts,
                 end,
             });
         }
+        if grown < shapes.len() / FEW {
+            settle(alloc, base, &shapes, &mut lengths)?;
+        }
     }
 }
 
 /// Places blocks one after another, and returns where the last ends.
-fn place(
+pub(crate) fn place(
     base: u32,
     shapes: &[Shape],
     lengths: &[u8],
@@ -94,9 +103,9 @@ fn end_of(start: u32, shape: &Shape, len: u8) -> Result<u32, AssembleFault>
     Ok(end as u32)
 }
 
-/// Gives each offset that doesn't fit its length the least that it fits, by the starts of blocks before, and returns whether
-/// there was one.
-fn grow(shapes: &[Shape], starts: &[u32], lengths: &mut Vec<u8>) -> bool
+/// Gives each offset that doesn't fit its length the least that it fits, by the starts of blocks before, and returns how
+/// many there were.
+fn grow(shapes: &[Shape], starts: &[u32], lengths: &mut Vec<u8>) -> usize
     requires starts { (base : ℕ) × AreShapeStarts base shapes.now lengths.old.items starts.now }
     requires small { (t : ℕ) → slice_index starts.now t ≤ most_bytes }
     requires fronts { (at : ℕ) (s : Shape) → slice_get shapes.now at ≡ Some s → slice_index starts.now at + s.front ≤ most_bytes }
@@ -106,18 +115,18 @@ fn grow(shapes: &[Shape], starts: &[u32], lengths: &mut Vec<u8>) -> bool
     ensures count { length lengths.new.items ≡ length shapes.now }
     ensures most { AtMost4 lengths.new.items }
     ensures least { NoLonger shapes.now lengths.old.items lengths.new.items }
-    ensures fits { result ≡ false → (lengths.new.items ≡ lengths.old.items) × Wide shapes.now lengths.new.items }
-    ensures grew { result ≡ true → sum lengths.old.items < sum lengths.new.items }
+    ensures fits { result ≡ 0 → (lengths.new.items ≡ lengths.old.items) × Wide shapes.now lengths.new.items }
+    ensures grew { 0 < result → sum lengths.old.items < sum lengths.new.items }
 {
-    let mut grew = false;
+    let mut grown = 0;
     for at in 0..shapes.len() {
         let len = wanted_len(&shapes[at], at, starts);
         if len > lengths[at] {
             lengths[at] = len;
-            grew = true;
+            grown += 1;
         }
     }
-    grew
+    grown
 }
 
 /// The least length that the offset of a block fits, and 0 where it has none.
@@ -135,7 +144,7 @@ fn wanted_len(shape: &Shape, at: usize, starts: &[u32]) -> u8
 }
 
 /// The least length that a distance fits.
-fn least_len(from: u32, to: u32) -> u8
+pub(crate) fn least_len(from: u32, to: u32) -> u8
     requires from { from ≤ most_bytes }
     requires to { to ≤ most_bytes }
     ensures { IsLeastLen result from to }

@@ -13,10 +13,10 @@ loop-at-preserved c =
     let read : c.index.result.now ≡ slice_index c.loop-at.lengths.items c.loop-at.at = get_or_read c.loop-at.lengths.items c.loop-at.at c.index.result.now within c.index.ensures 0 in
     elim c.if-len-index.branch [
       | then-len-index w ↦
-          rw (w.lengths-is, w.grew-is)
+          rw (w.lengths-is, w.grown-is)
           (sweep_raised _ _ _ _ _ _ _ _ _ c.requires.starts.1 c.requires.targets c.loop-at-test.true is c.loop-at.invariant c.wanted_len-len.ensures (omega (arith, read, w.if-len-index.true)))
       | else-len-index w ↦
-          rw (w.lengths-is, w.grew-is)
+          rw (w.lengths-is, w.grown-is)
           (sweep_kept _ _ _ _ _ _ _ _ _ c.requires.starts.1 c.requires.targets c.loop-at-test.true is c.loop-at.invariant c.wanted_len-len.ensures (omega (arith, read, w.if-len-index.false)))
     ]
 
