@@ -1,6 +1,6 @@
 -- The words of a generated text, decoded.
-use Rattle.std.proofs.Common.{◌≡◌, ℕ, zero, suc, ◌+◌, ◌<◌, ◌%◌, ◌^◌, Bool, true, false, refl, arith}
-use Rattle.std.specs.Prelude.{◌*◌, pos, Ok, Result, nat_eq}
+use Rattle.std.proofs.Common.{◌≡◌, ℕ, zero, suc, ◌<◌, ◌%◌, refl, arith}
+use Rattle.std.specs.Prelude.{◌*◌, pos, Ok}
 use Rattle.std.proofs.lemmas.Bool.{lt-ltb}
 use Rattle.numbers.specs.Words.{field}
 use Rattle.rv_decode.specs.Operations.{operation, of_op, of_op_imm, of_op_imm_32, of_jalr, alu_of, base_of, alternate_of, multiply_of, alu_imm_of, alu_imm_32_of, register_of, immediate_of, i_immediate}
@@ -9,9 +9,8 @@ use Rattle.rv_decode.specs.declared.ops.Alu.TheVariants.{Add, Sub, Xor, Mul, Slt
 use Rattle.rv_decode.specs.declared.ops.AluImm.TheVariants.{Addi, Srliw}
 use Rattle.rv_decode.specs.declared.ops.Reg.TheVariants.{Zero, R}
 use Rattle.rv_decode.specs.declared.ops.RvOp.TheVariants.{Jalr, Op, OpImm}
-use Rattle.rv_decode.specs.declared.ops.WordFault.{WordFault}
 use Rattle.generated.specs.Laws.{argument, operation_of, WordsAreOperations}
-use Rattle.generated.specs.Words.{r_type, i_type, register, instruction, word_of, return_word}
+use Rattle.generated.specs.Words.{r_type, i_type, register, instruction, return_word}
 
 -- the decoder reads the registers a2 to a5
 register-read : (n : ℕ) → n < 4 → register_of (register n) ≡ Ok (argument n)

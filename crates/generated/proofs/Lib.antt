@@ -1,3 +1,6 @@
 mod Lengths
 mod Texts
 mod Decoding
+mod Fields
+mod Read
+mod Whole

@@ -1,3 +1,4 @@
 pub mod Words
 pub mod Objects
 pub mod Laws
+pub mod Spelled

@@ -1,5 +1,5 @@
 -- The ELF object of a generated text: one section of code with the function `main`.
-use Rattle.std.specs.Prelude.{ℕ, zero, suc, ◌+◌, ◌*◌, ◌++◌, List, [], ◌∷◌, codes}
+use Rattle.std.specs.Prelude.{ℕ, zero, suc, ◌+◌, ◌*◌, ◌++◌, List, codes}
 use Rattle.numbers.specs.Bytes.{le_16, le_32, le_64}
 use Rattle.generated.specs.Words.{next, word_of, return_word}
 

@@ -1,5 +1,5 @@
 use crate::word::{next, word_of};
-use crate::{generated, words_are_operations};
+use crate::{generated, objects_are_spelled, words_are_operations};
 use std::alloc::AllocError;
 
 #[test]
@@ -9,8 +9,9 @@ fn words_of_small_seeds(rt: HostRuntime) {
 }
 
 #[test]
-fn the_law_of_words_can_be_called(_rt: HostRuntime) {
+fn the_laws_can_be_called(_rt: HostRuntime) {
     words_are_operations();
+    objects_are_spelled();
 }
 
 #[test]
