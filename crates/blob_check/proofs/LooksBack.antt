@@ -83,8 +83,8 @@ unfolding leads
 unmarked code at from e = rw e refl
 
 -- one with a mark after it does not lead past that
-behind_mark : (code : Listing) (at from mark : ℕ) → from < mark → mark < at → is_marked code mark ≡ true → leads code at from ≡ false
-behind_mark code at from mark l l' e =
+after_mark : (code : Listing) (at from mark : ℕ) → from < mark → mark < at → is_marked code mark ≡ true → leads code at from ≡ false
+after_mark code at from mark l l' e =
     let stops : is_stop code mark ≡ true = stop-marked code mark (within code mark e) ∙ e in
     let short : from + 1 + skip code from ≤ mark = run_before-stops (is_stop code) 24 (from + 1) mark (omega arith) stops in
     elsewhere code at from (λ f. omega arith)
@@ -107,7 +107,7 @@ found code at from here there l near between =
     let one = nearest code at from here there l near between in
     let others : (k : ℕ) → k < at → k ≢ from → leads code at k ≡ false =
     λ k less other. elim (cases_lt k from) [
-      | inl before ↦ behind_mark code at k from before l there
+      | inl before ↦ after_mark code at k from before l there
       | inr after ↦ unmarked code at k (between k (omega arith) less)
     ] in
     elim (is_terminator (slice_index code.bytes from)) as (λ b. is_terminator (slice_index code.bytes from) ≡ b → any_below (leads code at) at ≡ b) [

@@ -151,11 +151,11 @@ fn last_mark(code: &Code<'_>) -> Option<u64>
     ensures last { result ≡ last_mark code.now (length code.now.bytes) }
     ensures marked { IfSome result (λ at. is_marked code.now at ≡ true) }
 {
-    let mut behind = code.len();
-    while behind > 0 {
-        behind -= 1;
-        if code.marked(behind) {
-            return Some(behind);
+    let mut after = code.len();
+    while after > 0 {
+        after -= 1;
+        if code.marked(after) {
+            return Some(after);
         }
     }
     None

@@ -6,7 +6,7 @@ use Rattle.numbers.specs.Bytes.{little}
 use Rattle.blob_codec.specs.declared.fault.BlobFault.TheVariants.{LeftOver}
 use Rattle.blob_codec.specs.declared.container.Sizes.{Sizes}
 use Rattle.blob_codec.specs.Grammar.{Program, program_bytes, IsProgram, Container, container_bytes, IsContainer}
-use Rattle.blob_codec.specs.Reading.{AreBytes, ◌>>=◌, bytes_front, number_front, program_of, sizes_front, last_program, container_of}
+use Rattle.blob_codec.specs.Reading.{AreBytes, ◌>>=◌, read_bytes, read_number, program_of, read_sizes, last_program, container_of}
 use Rattle.blob_codec.specs.Laws.{ContainersAreSpelled, ContainersAreRead, ContainersHaveOneSpelling, ContainersDiffer, ContainersOrFaults}
 use Rattle.blob_codec.proofs.FieldLaws.{bind_ok, goes_on, ok_is, Takes, Takes-then, Takes-all, Takes-two, bytes_take, bytes_again, number_takes, number_again, or_fault}
 use Rattle.blob_codec.proofs.Programs.{program_takes, program_again}
@@ -22,16 +22,16 @@ record AreSizes (sizes : Sizes) : Type 0 where
   zero_pages : sizes.zero_pages < 2 ^ 16
   stack : sizes.stack < 2 ^ 24
 
-sizes_take : (bytes : List ℕ) (x : Sizes × List ℕ) → AreBytes bytes → sizes_front bytes ≡ Ok x → Takes bytes (sizes_bytes x.0) x.1 × AreSizes x.0
-unfolding sizes_front sizes_bytes
+sizes_take : (bytes : List ℕ) (x : Sizes × List ℕ) → AreBytes bytes → read_sizes bytes ≡ Ok x → Takes bytes (sizes_bytes x.0) x.1 × AreSizes x.0
+unfolding read_sizes sizes_bytes
 sizes_take bytes x h e =
-    let a = bind_ok (number_front 3 bytes) (λ read_only. number_front 3 read_only.1 >>= λ writable. number_front 2 writable.1 >>= λ zero_pages. number_front 3 zero_pages.1 >>= λ stack.
+    let a = bind_ok (read_number 3 bytes) (λ read_only. read_number 3 read_only.1 >>= λ writable. read_number 2 writable.1 >>= λ zero_pages. read_number 3 zero_pages.1 >>= λ stack.
     Ok (record { read_only = read_only.0; writable = writable.0; zero_pages = zero_pages.0; stack = stack.0 }, stack.1)) x e in
-    let b = bind_ok (number_front 3 a.0.1) (λ writable. number_front 2 writable.1 >>= λ zero_pages. number_front 3 zero_pages.1 >>= λ stack.
+    let b = bind_ok (read_number 3 a.0.1) (λ writable. read_number 2 writable.1 >>= λ zero_pages. read_number 3 zero_pages.1 >>= λ stack.
     Ok (record { read_only = a.0.0; writable = writable.0; zero_pages = zero_pages.0; stack = stack.0 }, stack.1)) x a.2 in
-    let c = bind_ok (number_front 2 b.0.1) (λ zero_pages. number_front 3 zero_pages.1 >>= λ stack.
+    let c = bind_ok (read_number 2 b.0.1) (λ zero_pages. read_number 3 zero_pages.1 >>= λ stack.
     Ok (record { read_only = a.0.0; writable = b.0.0; zero_pages = zero_pages.0; stack = stack.0 }, stack.1)) x b.2 in
-    let d = bind_ok (number_front 3 c.0.1) (λ stack. Ok (record { read_only = a.0.0; writable = b.0.0; zero_pages = c.0.0; stack = stack.0 }, stack.1)) x c.2 in
+    let d = bind_ok (read_number 3 c.0.1) (λ stack. Ok (record { read_only = a.0.0; writable = b.0.0; zero_pages = c.0.0; stack = stack.0 }, stack.1)) x c.2 in
     let first = number_takes 3 bytes a.0 h a.1 in
     let second = number_takes 3 a.0.1 b.0 first.0.rest_bytes b.1 in
     let third = number_takes 2 b.0.1 c.0 second.0.rest_bytes c.1 in
@@ -45,15 +45,15 @@ sizes_take bytes x h e =
 
 -- a text is read as a number of `n` bytes, whatever follows it
 Spells : ℕ → List ℕ → ℕ → Type 0
-Spells n text x = (rest : List ℕ) → number_front n (text ++ rest) ≡ Ok (x, rest)
+Spells n text x = (rest : List ℕ) → read_number n (text ++ rest) ≡ Ok (x, rest)
 
 little_spells : (n x : ℕ) → x < 2 ^ (8 * n) → Spells n (little n x) x
 unfolding Spells
 little_spells n x lt rest = number_again n x rest lt
 
 sizes_again : (a b c d rest : List ℕ) (sizes : Sizes) → Spells 3 a sizes.read_only → Spells 3 b sizes.writable → Spells 2 c sizes.zero_pages → Spells 3 d sizes.stack
-    → sizes_front (a ++ (b ++ (c ++ (d ++ rest)))) ≡ Ok (sizes, rest)
-unfolding sizes_front Spells
+    → read_sizes (a ++ (b ++ (c ++ (d ++ rest)))) ≡ Ok (sizes, rest)
+unfolding read_sizes Spells
 sizes_again a b c d rest sizes first second third fourth =
     rw (first (b ++ (c ++ (d ++ rest))), second (c ++ (d ++ rest)), third (d ++ rest), fourth rest) refl
 
@@ -71,8 +71,8 @@ resized len text bytes same e sized is = rw (← sized, ← is) e
 last_takes : (bytes : List ℕ) (p : Program) → AreBytes bytes → last_program bytes ≡ Ok p → IsLast bytes p
 unfolding last_program
 last_takes bytes p h e =
-    let a = bind_ok (number_front 4 bytes) (λ len. bytes_front len.0 len.1 >>= λ program. cond (eqb (length program.1) 0) (program_of program.0) (Err LeftOver)) p e in
-    let b = bind_ok (bytes_front a.0.0 a.0.1) (λ program. cond (eqb (length program.1) 0) (program_of program.0) (Err LeftOver)) p a.2 in
+    let a = bind_ok (read_number 4 bytes) (λ len. read_bytes len.0 len.1 >>= λ program. cond (eqb (length program.1) 0) (program_of program.0) (Err LeftOver)) p e in
+    let b = bind_ok (read_bytes a.0.0 a.0.1) (λ program. cond (eqb (length program.1) 0) (program_of program.0) (Err LeftOver)) p a.2 in
     let g = goes_on (eqb (length b.0.1) 0) LeftOver (program_of b.0.0) p b.2 in
     let len = number_takes 4 bytes a.0 h a.1 in
     let text = bytes_take a.0.0 a.0.1 b.0 len.0.rest_bytes b.1 in
@@ -103,12 +103,12 @@ made_spelled sizes read_only writable program bytes first second e = rw (first, 
 pub container_takes : ContainersAreSpelled
 unfolding container_of sizes_bytes
 container_takes bytes x h e =
-    let a = bind_ok (sizes_front bytes) (λ sizes. bytes_front sizes.0.read_only sizes.1 >>= λ read_only. bytes_front sizes.0.writable read_only.1 >>= λ writable. last_program writable.1 >>= λ program.
+    let a = bind_ok (read_sizes bytes) (λ sizes. read_bytes sizes.0.read_only sizes.1 >>= λ read_only. read_bytes sizes.0.writable read_only.1 >>= λ writable. last_program writable.1 >>= λ program.
     Ok (record { read_only = read_only.0; writable = writable.0; zero_pages = sizes.0.zero_pages; stack = sizes.0.stack; program = program })) x e in
     let s = a.0.0 in
-    let b = bind_ok (bytes_front s.read_only a.0.1) (λ read_only. bytes_front s.writable read_only.1 >>= λ writable. last_program writable.1 >>= λ program.
+    let b = bind_ok (read_bytes s.read_only a.0.1) (λ read_only. read_bytes s.writable read_only.1 >>= λ writable. last_program writable.1 >>= λ program.
     Ok (record { read_only = read_only.0; writable = writable.0; zero_pages = s.zero_pages; stack = s.stack; program = program })) x a.2 in
-    let c = bind_ok (bytes_front s.writable b.0.1) (λ writable. last_program writable.1 >>= λ program.
+    let c = bind_ok (read_bytes s.writable b.0.1) (λ writable. last_program writable.1 >>= λ program.
     Ok (record { read_only = b.0.0; writable = writable.0; zero_pages = s.zero_pages; stack = s.stack; program = program })) x b.2 in
     let d = bind_ok (last_program c.0.1) (λ program. Ok (record { read_only = b.0.0; writable = c.0.0; zero_pages = s.zero_pages; stack = s.stack; program = program })) x c.2 in
     let sizes = sizes_take bytes a.0 h a.1 in

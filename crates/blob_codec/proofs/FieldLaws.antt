@@ -9,7 +9,7 @@ use Rattle.numbers.proofs.BytesLaws.{length-little, number_of-little}
 use Rattle.blob_codec.proofs.Numbers.{pow_more}
 use Rattle.blob_codec.specs.declared.fault.BlobFault.{BlobFault}
 use Rattle.blob_codec.specs.declared.fault.BlobFault.TheVariants.{Truncated}
-use Rattle.blob_codec.specs.Reading.{AreBytes, ◌>>=◌, byte_front, bytes_front, number_front}
+use Rattle.blob_codec.specs.Reading.{AreBytes, ◌>>=◌, read_byte, read_bytes, read_number}
 
 pub AreBytes-drop : (n : ℕ) (bytes : List ℕ) → AreBytes bytes → AreBytes (drop n bytes)
 AreBytes-drop n bytes h at = rw get_or-drop (h (n + at))
@@ -66,20 +66,20 @@ Takes-all bytes text rest t nothing = t.parts ∙ ap (λ (r : List ℕ). text ++
 pub Takes-two : (bytes text rest x y : List ℕ) → Takes bytes text rest → rest ≡ x ++ y → bytes ≡ text ++ x ++ y
 Takes-two bytes text rest x y t e = t.parts ∙ ap (λ (r : List ℕ). text ++ r) e ∙ sym (append_assoc text x y)
 
-pub byte_takes : (bytes : List ℕ) (x : ℕ × List ℕ) → AreBytes bytes → byte_front bytes ≡ Ok x → Takes bytes (x.0 ∷ []) x.1 × (x.0 < 256)
+pub byte_takes : (bytes : List ℕ) (x : ℕ × List ℕ) → AreBytes bytes → read_byte bytes ≡ Ok x → Takes bytes (x.0 ∷ []) x.1 × (x.0 < 256)
 byte_takes [] x h e = absurd cc
 byte_takes (byte ∷ rest) x h e =
     subst (λ (y : ℕ × List ℕ). Takes (byte ∷ rest) (y.0 ∷ []) y.1 × (y.0 < 256)) (ok_is (byte, rest) x e)
     (record { parts = refl; rest_bytes = AreBytes-rest byte rest h }, h 0)
 
-pub bytes_take : (n : ℕ) (bytes : List ℕ) (x : List ℕ × List ℕ) → AreBytes bytes → bytes_front n bytes ≡ Ok x → Takes bytes x.0 x.1 × (length x.0 ≡ n) × AreBytes x.0
+pub bytes_take : (n : ℕ) (bytes : List ℕ) (x : List ℕ × List ℕ) → AreBytes bytes → read_bytes n bytes ≡ Ok x → Takes bytes x.0 x.1 × (length x.0 ≡ n) × AreBytes x.0
 bytes_take n bytes x h e =
     let g = guard_ok (ltb (length bytes) n) Truncated (take n bytes, drop n bytes) x e in
     let long : n ≤ length bytes = ltb-false (length bytes) n g.0 in
     subst (λ (y : List ℕ × List ℕ). Takes bytes y.0 y.1 × (length y.0 ≡ n) × AreBytes y.0) g.1
     (record { parts = sym (take-append-drop n bytes); rest_bytes = AreBytes-drop n bytes h }, omega (arith, length-take n bytes), AreBytes-take n bytes h)
 
-pub bytes_again : (text rest : List ℕ) (n : ℕ) → length text ≡ n → bytes_front n (text ++ rest) ≡ Ok (text, rest)
+pub bytes_again : (text rest : List ℕ) (n : ℕ) → length text ≡ n → read_bytes n (text ++ rest) ≡ Ok (text, rest)
 bytes_again text rest n e =
     let long : ltb (length (text ++ rest)) n ≡ false = le-ltb _ _ (omega (arith, length-append text rest)) in
     rw (long, take_at text rest n e, drop_at text rest n e) refl
@@ -110,7 +110,7 @@ number_of-lt (b ∷ bs) n e h =
     let more : 2 ^ (8 * suc (length bs)) ≡ 256 * 2 ^ (8 * length bs) = pow_more (length bs) (suc (length bs)) (omega arith) in
     rw (← e, more) (omega (arith, h 0, number_of-lt bs (length bs) refl (AreBytes-rest b bs h)))
 
-pub number_takes : (n : ℕ) (bytes : List ℕ) (x : ℕ × List ℕ) → AreBytes bytes → number_front n bytes ≡ Ok x → Takes bytes (little n x.0) x.1 × (x.0 < 2 ^ (8 * n))
+pub number_takes : (n : ℕ) (bytes : List ℕ) (x : ℕ × List ℕ) → AreBytes bytes → read_number n bytes ≡ Ok x → Takes bytes (little n x.0) x.1 × (x.0 < 2 ^ (8 * n))
 number_takes n bytes x h e =
     let g = guard_ok (ltb (length bytes) n) Truncated (number_of (take n bytes), drop n bytes) x e in
     let long : n ≤ length bytes = ltb-false (length bytes) n g.0 in
@@ -120,13 +120,13 @@ number_takes n bytes x h e =
     (record { parts = rw front (sym (take-append-drop n bytes)); rest_bytes = AreBytes-drop n bytes h }, number_of-lt (take n bytes) n len (AreBytes-take n bytes h))
 
 -- of a number that has more bytes, the low ones are read
-pub low_again : (n x : ℕ) (rest : List ℕ) → number_front n (little n x ++ rest) ≡ Ok (x % 2 ^ (8 * n), rest)
+pub low_again : (n x : ℕ) (rest : List ℕ) → read_number n (little n x ++ rest) ≡ Ok (x % 2 ^ (8 * n), rest)
 low_again n x rest =
     let len = length-little n x in
     let long : ltb (length (little n x ++ rest)) n ≡ false = le-ltb _ _ (omega (arith, length-append (little n x) rest)) in
     rw (long, take_at (little n x) rest n len, drop_at (little n x) rest n len, number_of-little n x) refl
 
-pub number_again : (n x : ℕ) (rest : List ℕ) → x < 2 ^ (8 * n) → number_front n (little n x ++ rest) ≡ Ok (x, rest)
+pub number_again : (n x : ℕ) (rest : List ℕ) → x < 2 ^ (8 * n) → read_number n (little n x ++ rest) ≡ Ok (x, rest)
 number_again n x rest lt = low_again n x rest ∙ ap (λ (y : ℕ). Ok (y, rest)) (mod-eq_of_lt lt)
 
 -- a fault comes exactly where there is no value that is read

@@ -5,7 +5,7 @@ use Rattle.std.proofs.lemmas.Nat.{div-add-mod', div-mul-add}
 use Rattle.numbers.specs.Bytes.{little}
 use Rattle.blob_codec.specs.declared.fault.BlobFault.TheVariants.{Overlong}
 use Rattle.blob_codec.specs.Grammar.{natural_len, natural}
-use Rattle.blob_codec.specs.Reading.{AreBytes, ◌>>=◌, byte_front, number_front, following, led_number, natural_front}
+use Rattle.blob_codec.specs.Reading.{AreBytes, ◌>>=◌, read_byte, read_number, following, led_number, read_natural}
 use Rattle.blob_codec.proofs.FieldLaws.{bind_ok, kept_ok, Takes, Takes-then, byte_takes, number_takes, low_again, little-above}
 
 -- what holds of the bytes that follow, at each range of the first
@@ -128,14 +128,14 @@ number_of_parts first len low lt e low_lt len_is =
     let ranges : Leads first len = rw e (leads first lt) in
     (natural_is first len low ranges.ones low_lt len_is, ranges.fits low low_lt)
 
-pub natural_takes : (bytes : List ℕ) (x : ℕ × List ℕ) → AreBytes bytes → natural_front bytes ≡ Ok x → Takes bytes (natural x.0) x.1 × (x.0 < 2 ^ 64)
-unfolding natural_front
+pub natural_takes : (bytes : List ℕ) (x : ℕ × List ℕ) → AreBytes bytes → read_natural bytes ≡ Ok x → Takes bytes (natural x.0) x.1 × (x.0 < 2 ^ 64)
+unfolding read_natural
 natural_takes bytes x h e =
-    let a = bind_ok (byte_front bytes) (λ first. number_front (following first.0) first.1 >>= λ low.
+    let a = bind_ok (read_byte bytes) (λ first. read_number (following first.0) first.1 >>= λ low.
     cond (eqb (natural_len (led_number first.0 (following first.0) low.0)) (following first.0)) (Ok (led_number first.0 (following first.0) low.0, low.1)) (Err Overlong)) x e in
     let first = a.0.0 in
     let len = following first in
-    let b = bind_ok (number_front len a.0.1) (λ low. cond (eqb (natural_len (led_number first len low.0)) len) (Ok (led_number first len low.0, low.1)) (Err Overlong)) x a.2 in
+    let b = bind_ok (read_number len a.0.1) (λ low. cond (eqb (natural_len (led_number first len low.0)) len) (Ok (led_number first len low.0, low.1)) (Err Overlong)) x a.2 in
     let number = led_number first len b.0.0 in
     let read : ℕ × List ℕ = (number, b.0.1) in
     let g = kept_ok (eqb (natural_len number) len) Overlong read x b.2 in
@@ -145,8 +145,8 @@ natural_takes bytes x h e =
     let both = Takes-then bytes (first ∷ []) a.0.1 (little len b.0.0) b.0.1 front.0 low.0 in
     subst (λ (y : ℕ × List ℕ). Takes bytes (natural y.0) y.1 × (y.0 < 2 ^ 64)) {x = read} {y = x} g.1 (rw (parts.0) both, parts.1)
 
-pub natural_again : (x : ℕ) (rest : List ℕ) → x < 2 ^ 64 → natural_front (natural x ++ rest) ≡ Ok (x, rest)
-unfolding natural_front led_number natural
+pub natural_again : (x : ℕ) (rest : List ℕ) → x < 2 ^ 64 → read_natural (natural x ++ rest) ≡ Ok (x, rest)
+unfolding read_natural led_number natural
 natural_again x rest lt =
     let len = natural_len x in
     let high = x / 2 ^ (8 * len) in

@@ -13,7 +13,7 @@ use Rattle.numbers.specs.Bytes.{little, number_of}
 use Rattle.blob_codec.specs.declared.fault.BlobFault.TheVariants.{BadWidth, BadPadding, LeftOver}
 use Rattle.blob_codec.specs.declared.program.Counts.{Counts}
 use Rattle.blob_codec.specs.Grammar.{natural, Program, program_bytes, IsProgram}
-use Rattle.blob_codec.specs.Reading.{AreBytes, ◌>>=◌, byte_front, bytes_front, natural_front, width_front, counts_front, mask_front, entries_of, program_of}
+use Rattle.blob_codec.specs.Reading.{AreBytes, ◌>>=◌, read_byte, read_bytes, read_natural, read_width, read_counts, read_mask, entries_of, program_of}
 use Rattle.blob_codec.specs.Laws.{ProgramsAreSpelled, ProgramsAreRead, ProgramsHaveOneSpelling, ProgramsDiffer, ProgramsOrFaults}
 use Rattle.blob_codec.proofs.Entries.{length-entries_of}
 use Rattle.blob_codec.proofs.FieldLaws.{bind_ok, guard_ok, kept_ok, ok_is, Takes, Takes-then, Takes-all, byte_takes, bytes_take, bytes_again, AreBytes-take, AreBytes-drop, little-number_of, number_of-lt, or_fault}
@@ -30,16 +30,16 @@ width_ok width table_len e = record { most = grind (arith, nat_tests); some = gr
 ok_width : (width table_len : ℕ) → IsWidth width table_len → (ltb 8 width || (eqb width 0 && ltb 0 table_len)) ≡ false
 ok_width width table_len h = (let most = h.most in let some = h.some in grind (arith, nat_tests))
 
-width_takes : (table_len : ℕ) (bytes : List ℕ) (x : ℕ × List ℕ) → AreBytes bytes → width_front table_len bytes ≡ Ok x → Takes bytes (x.0 ∷ []) x.1 × IsWidth x.0 table_len
-unfolding width_front
+width_takes : (table_len : ℕ) (bytes : List ℕ) (x : ℕ × List ℕ) → AreBytes bytes → read_width table_len bytes ≡ Ok x → Takes bytes (x.0 ∷ []) x.1 × IsWidth x.0 table_len
+unfolding read_width
 width_takes table_len bytes x h e =
-    let a = bind_ok (byte_front bytes) (λ width. cond (ltb 8 width.0 || (eqb width.0 0 && ltb 0 table_len)) (Err BadWidth) (Ok width)) x e in
+    let a = bind_ok (read_byte bytes) (λ width. cond (ltb 8 width.0 || (eqb width.0 0 && ltb 0 table_len)) (Err BadWidth) (Ok width)) x e in
     let g = guard_ok (ltb 8 a.0.0 || (eqb a.0.0 0 && ltb 0 table_len)) BadWidth a.0 x a.2 in
     let front = byte_takes bytes a.0 h a.1 in
     subst (λ (y : ℕ × List ℕ). Takes bytes (y.0 ∷ []) y.1 × IsWidth y.0 table_len) {x = a.0} {y = x} g.1 (front.0, width_ok a.0.0 table_len g.0)
 
-width_again : (table_len width : ℕ) (rest : List ℕ) → IsWidth width table_len → width_front table_len (width ∷ rest) ≡ Ok (width, rest)
-unfolding width_front
+width_again : (table_len width : ℕ) (rest : List ℕ) → IsWidth width table_len → read_width table_len (width ∷ rest) ≡ Ok (width, rest)
+unfolding read_width
 width_again table_len width rest h = rw (ok_width width table_len h) refl
 
 -- what a program begins with, and its spelling
@@ -51,12 +51,12 @@ record AreCounts (counts : Counts) : Type 0 where
   width : IsWidth counts.width counts.table_len
   code_len : counts.code_len < 2 ^ 64
 
-counts_take : (bytes : List ℕ) (x : Counts × List ℕ) → AreBytes bytes → counts_front bytes ≡ Ok x → Takes bytes (counts_bytes x.0) x.1 × AreCounts x.0
-unfolding counts_front counts_bytes
+counts_take : (bytes : List ℕ) (x : Counts × List ℕ) → AreBytes bytes → read_counts bytes ≡ Ok x → Takes bytes (counts_bytes x.0) x.1 × AreCounts x.0
+unfolding read_counts counts_bytes
 counts_take bytes x h e =
-    let a = bind_ok (natural_front bytes) (λ table_len. width_front table_len.0 table_len.1 >>= λ width. natural_front width.1 >>= λ code_len. Ok (record { table_len = table_len.0; width = width.0; code_len = code_len.0 }, code_len.1)) x e in
-    let b = bind_ok (width_front a.0.0 a.0.1) (λ width. natural_front width.1 >>= λ code_len. Ok (record { table_len = a.0.0; width = width.0; code_len = code_len.0 }, code_len.1)) x a.2 in
-    let c = bind_ok (natural_front b.0.1) (λ code_len. Ok (record { table_len = a.0.0; width = b.0.0; code_len = code_len.0 }, code_len.1)) x b.2 in
+    let a = bind_ok (read_natural bytes) (λ table_len. read_width table_len.0 table_len.1 >>= λ width. read_natural width.1 >>= λ code_len. Ok (record { table_len = table_len.0; width = width.0; code_len = code_len.0 }, code_len.1)) x e in
+    let b = bind_ok (read_width a.0.0 a.0.1) (λ width. read_natural width.1 >>= λ code_len. Ok (record { table_len = a.0.0; width = width.0; code_len = code_len.0 }, code_len.1)) x a.2 in
+    let c = bind_ok (read_natural b.0.1) (λ code_len. Ok (record { table_len = a.0.0; width = b.0.0; code_len = code_len.0 }, code_len.1)) x b.2 in
     let first = natural_takes bytes a.0 h a.1 in
     let second = width_takes a.0.0 a.0.1 b.0 first.0.rest_bytes b.1 in
     let third = natural_takes b.0.1 c.0 second.0.rest_bytes c.1 in
@@ -66,8 +66,8 @@ counts_take bytes x h e =
     subst (λ (y : Counts × List ℕ). Takes bytes (counts_bytes y.0) y.1 × AreCounts y.0) {x = made} {y = x} (ok_is made x c.2)
     (three, record { table_len = first.1; width = second.1; code_len = third.1 })
 
-counts_again : (counts : Counts) (rest : List ℕ) → AreCounts counts → counts_front (natural counts.table_len ++ (counts.width ∷ (natural counts.code_len ++ rest))) ≡ Ok (counts, rest)
-unfolding counts_front
+counts_again : (counts : Counts) (rest : List ℕ) → AreCounts counts → read_counts (natural counts.table_len ++ (counts.width ∷ (natural counts.code_len ++ rest))) ≡ Ok (counts, rest)
+unfolding read_counts
 counts_again counts rest h =
     rw (natural_again counts.table_len (counts.width ∷ (natural counts.code_len ++ rest)) h.table_len, width_again counts.table_len counts.width (natural counts.code_len ++ rest) h.width, natural_again counts.code_len rest h.code_len) refl
 
@@ -75,18 +75,18 @@ counts_again counts rest h =
 abbrev padding_of : List ℕ → ℕ → ℕ
 padding_of mask code_len = slice_index mask (code_len / 8) / 2 ^ (code_len % 8)
 
-mask_takes : (code_len : ℕ) (bytes : List ℕ) (x : List ℕ × List ℕ) → AreBytes bytes → mask_front code_len bytes ≡ Ok x
+mask_takes : (code_len : ℕ) (bytes : List ℕ) (x : List ℕ × List ℕ) → AreBytes bytes → read_mask code_len bytes ≡ Ok x
     → Takes bytes x.0 x.1 × (length x.0 ≡ (code_len + 7) / 8) × (padding_of x.0 code_len ≡ 0)
-unfolding mask_front
+unfolding read_mask
 mask_takes code_len bytes x h e =
-    let a = bind_ok (bytes_front ((code_len + 7) / 8) bytes) (λ mask. cond (eqb (padding_of mask.0 code_len) 0) (Ok mask) (Err BadPadding)) x e in
+    let a = bind_ok (read_bytes ((code_len + 7) / 8) bytes) (λ mask. cond (eqb (padding_of mask.0 code_len) 0) (Ok mask) (Err BadPadding)) x e in
     let g = kept_ok (eqb (padding_of a.0.0 code_len) 0) BadPadding a.0 x a.2 in
     let front = bytes_take ((code_len + 7) / 8) bytes a.0 h a.1 in
     subst (λ (y : List ℕ × List ℕ). Takes bytes y.0 y.1 × (length y.0 ≡ (code_len + 7) / 8) × (padding_of y.0 code_len ≡ 0)) {x = a.0} {y = x} g.1
     (front.0, front.1, eqb-true (padding_of a.0.0 code_len) 0 g.0)
 
-mask_again : (code_len : ℕ) (mask rest : List ℕ) → length mask ≡ (code_len + 7) / 8 → padding_of mask code_len ≡ 0 → mask_front code_len (mask ++ rest) ≡ Ok (mask, rest)
-unfolding mask_front
+mask_again : (code_len : ℕ) (mask rest : List ℕ) → length mask ≡ (code_len + 7) / 8 → padding_of mask code_len ≡ 0 → read_mask code_len (mask ++ rest) ≡ Ok (mask, rest)
+unfolding read_mask
 mask_again code_len mask rest len padding = rw (bytes_again mask rest ((code_len + 7) / 8) len, eq-eqb _ _ padding) refl
 
 -- ---- tables
@@ -150,13 +150,13 @@ made_is n w k entries code mask few width small len h code_len mask_len padding 
 pub program_takes : ProgramsAreSpelled
 unfolding program_of counts_bytes made
 program_takes bytes p h e =
-    let a = bind_ok (counts_front bytes) (λ counts. bytes_front (counts.0.table_len * counts.0.width) counts.1 >>= λ entries. bytes_front counts.0.code_len entries.1 >>= λ code. mask_front counts.0.code_len code.1 >>= λ mask. cond (eqb (length mask.1) 0) (Ok (made counts.0.table_len counts.0.width entries.0 code.0 mask.0)) (Err LeftOver)) p e in
+    let a = bind_ok (read_counts bytes) (λ counts. read_bytes (counts.0.table_len * counts.0.width) counts.1 >>= λ entries. read_bytes counts.0.code_len entries.1 >>= λ code. read_mask counts.0.code_len code.1 >>= λ mask. cond (eqb (length mask.1) 0) (Ok (made counts.0.table_len counts.0.width entries.0 code.0 mask.0)) (Err LeftOver)) p e in
     let n = a.0.0.table_len in
     let w = a.0.0.width in
     let k = a.0.0.code_len in
-    let b = bind_ok (bytes_front (n * w) a.0.1) (λ entries. bytes_front k entries.1 >>= λ code. mask_front k code.1 >>= λ mask. cond (eqb (length mask.1) 0) (Ok (made n w entries.0 code.0 mask.0)) (Err LeftOver)) p a.2 in
-    let c = bind_ok (bytes_front k b.0.1) (λ code. mask_front k code.1 >>= λ mask. cond (eqb (length mask.1) 0) (Ok (made n w b.0.0 code.0 mask.0)) (Err LeftOver)) p b.2 in
-    let d = bind_ok (mask_front k c.0.1) (λ mask. cond (eqb (length mask.1) 0) (Ok (made n w b.0.0 c.0.0 mask.0)) (Err LeftOver)) p c.2 in
+    let b = bind_ok (read_bytes (n * w) a.0.1) (λ entries. read_bytes k entries.1 >>= λ code. read_mask k code.1 >>= λ mask. cond (eqb (length mask.1) 0) (Ok (made n w entries.0 code.0 mask.0)) (Err LeftOver)) p a.2 in
+    let c = bind_ok (read_bytes k b.0.1) (λ code. read_mask k code.1 >>= λ mask. cond (eqb (length mask.1) 0) (Ok (made n w b.0.0 code.0 mask.0)) (Err LeftOver)) p b.2 in
+    let d = bind_ok (read_mask k c.0.1) (λ mask. cond (eqb (length mask.1) 0) (Ok (made n w b.0.0 c.0.0 mask.0)) (Err LeftOver)) p c.2 in
     let g = kept_ok (eqb (length d.0.1) 0) LeftOver (made n w b.0.0 c.0.0 d.0.0) p d.2 in
     let counts = counts_take bytes a.0 h a.1 in
     let entries = bytes_take (n * w) a.0.1 b.0 counts.0.rest_bytes b.1 in

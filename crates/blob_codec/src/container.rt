@@ -3,7 +3,7 @@ ghost use Rattle.blob_codec.specs.Grammar.{IsContainer, container_bytes};
 ghost use Rattle.blob_codec.specs.Reading as reading;
 
 use crate::fault::BlobFault;
-use crate::fields::{bytes_front, number_front};
+use crate::fields::{read_bytes, read_number};
 use crate::program::Program;
 use std::marker::Model;
 
@@ -54,9 +54,9 @@ impl<'a> Container<'a> {
         ensures exact { result ≡ reading.container_of bytes.now }
         ensures spelled { IfOk result (λ c. IsContainer c × (bytes.now ≡ container_bytes c)) }
     {
-        let (sizes, rest) = sizes_front(bytes)?;
-        let (read_only, rest) = bytes_front(rest, u64::from(sizes.read_only))?;
-        let (writable, rest) = bytes_front(rest, u64::from(sizes.writable))?;
+        let (sizes, rest) = read_sizes(bytes)?;
+        let (read_only, rest) = read_bytes(rest, u64::from(sizes.read_only))?;
+        let (writable, rest) = read_bytes(rest, u64::from(sizes.writable))?;
         let program = last_program(rest)?;
         Ok(Container {
             read_only,
@@ -108,18 +108,18 @@ impl<'a> Container<'a> {
 }
 
 /// The four numbers off the front.
-#[tactic(auto, unfolding(crate::specs::Reading::sizes_front))]
-fn sizes_front(bytes: &[u8]) -> Result<(Sizes, &[u8]), BlobFault>
-    ensures value { reading.Gives (λ x. (x.0, x.1.now)) result (reading.sizes_front bytes.now) }
+#[tactic(auto, unfolding(crate::specs::Reading::read_sizes))]
+fn read_sizes(bytes: &[u8]) -> Result<(Sizes, &[u8]), BlobFault>
+    ensures value { reading.Gives (λ x. (x.0, x.1.now)) result (reading.read_sizes bytes.now) }
     ensures read_only { IfOk result (λ x. x.0.read_only < 2 ^ 24) }
     ensures writable { IfOk result (λ x. x.0.writable < 2 ^ 24) }
     ensures zero_pages { IfOk result (λ x. x.0.zero_pages < 2 ^ 16) }
     ensures stack { IfOk result (λ x. x.0.stack < 2 ^ 24) }
 {
-    let (read_only, rest) = number_front(bytes, 3)?;
-    let (writable, rest) = number_front(rest, 3)?;
-    let (zero_pages, rest) = number_front(rest, 2)?;
-    let (stack, rest) = number_front(rest, 3)?;
+    let (read_only, rest) = read_number(bytes, 3)?;
+    let (writable, rest) = read_number(rest, 3)?;
+    let (zero_pages, rest) = read_number(rest, 2)?;
+    let (stack, rest) = read_number(rest, 3)?;
     let sizes = Sizes {
         read_only: read_only as u32,
         writable: writable as u32,
@@ -134,8 +134,8 @@ fn sizes_front(bytes: &[u8]) -> Result<(Sizes, &[u8]), BlobFault>
 fn last_program(bytes: &[u8]) -> Result<Program<'_>, BlobFault>
     ensures { result ≡ reading.last_program bytes.now }
 {
-    let (len, rest) = number_front(bytes, 4)?;
-    let (program, rest) = bytes_front(rest, len)?;
+    let (len, rest) = read_number(bytes, 4)?;
+    let (program, rest) = read_bytes(rest, len)?;
     if !rest.is_empty() {
         return Err(BlobFault::LeftOver);
     }

@@ -6,8 +6,8 @@ ghost use Rattle.blob_codec.specs.Reading as reading;
 use crate::fault::BlobFault;
 
 /// One byte off the front.
-pub fn byte_front(bytes: &[u8]) -> Result<(u8, &[u8]), BlobFault>
-    ensures { reading.Gives (λ x. (x.0, x.1.now)) result (reading.byte_front bytes.now) }
+pub fn read_byte(bytes: &[u8]) -> Result<(u8, &[u8]), BlobFault>
+    ensures { reading.Gives (λ x. (x.0, x.1.now)) result (reading.read_byte bytes.now) }
 {
     match bytes {
         [] => Err(BlobFault::Truncated),
@@ -16,8 +16,8 @@ pub fn byte_front(bytes: &[u8]) -> Result<(u8, &[u8]), BlobFault>
 }
 
 /// `len` bytes off the front.
-pub fn bytes_front(bytes: &[u8], len: u64) -> Result<(&[u8], &[u8]), BlobFault>
-    ensures value { reading.Gives (λ x. (x.0.now, x.1.now)) result (reading.bytes_front len bytes.now) }
+pub fn read_bytes(bytes: &[u8], len: u64) -> Result<(&[u8], &[u8]), BlobFault>
+    ensures value { reading.Gives (λ x. (x.0.now, x.1.now)) result (reading.read_bytes len bytes.now) }
     ensures whole { IfOk result (λ x. length x.0.now ≡ len) }
 {
     if (bytes.len() as u64) < len {
@@ -27,9 +27,9 @@ pub fn bytes_front(bytes: &[u8], len: u64) -> Result<(&[u8], &[u8]), BlobFault>
 }
 
 /// A number of `len` bytes off the front, the lowest byte first.
-pub fn number_front(bytes: &[u8], len: u8) -> Result<(u64, &[u8]), BlobFault>
+pub fn read_number(bytes: &[u8], len: u8) -> Result<(u64, &[u8]), BlobFault>
     requires { len ≤ 8 }
-    ensures value { reading.Gives (λ x. (x.0, x.1.now)) result (reading.number_front len bytes.now) }
+    ensures value { reading.Gives (λ x. (x.0, x.1.now)) result (reading.read_number len bytes.now) }
     ensures bound { IfOk result (λ x. x.0 < 2 ^ (8 * len)) }
 {
     if bytes.len() < usize::from(len) {
@@ -56,13 +56,13 @@ pub fn little_endian(bytes: &[u8]) -> u64
 }
 
 /// A natural off the front: it is below 2^64, and spelled in as few bytes as its number takes.
-#[tactic(auto, unfolding(crate::specs::Reading::natural_front))]
-pub fn natural_front(bytes: &[u8]) -> Result<(u64, &[u8]), BlobFault>
-    ensures { reading.Gives (λ x. (x.0, x.1.now)) result (reading.natural_front bytes.now) }
+#[tactic(auto, unfolding(crate::specs::Reading::read_natural))]
+pub fn read_natural(bytes: &[u8]) -> Result<(u64, &[u8]), BlobFault>
+    ensures { reading.Gives (λ x. (x.0, x.1.now)) result (reading.read_natural bytes.now) }
 {
-    let (first, rest) = byte_front(bytes)?;
+    let (first, rest) = read_byte(bytes)?;
     let len = following(first);
-    let (low, rest) = number_front(rest, len)?;
+    let (low, rest) = read_number(rest, len)?;
     let number = led_number(first, low);
     if natural_len(number) == len {
         Ok((number, rest))

@@ -3,7 +3,7 @@ ghost use Rattle.blob_codec.specs.Grammar.{IsProgram, program_bytes};
 ghost use Rattle.blob_codec.specs.Reading as reading;
 
 use crate::fault::BlobFault;
-use crate::fields::{byte_front, bytes_front, little_endian, natural_front};
+use crate::fields::{little_endian, read_byte, read_bytes, read_natural};
 use pvm_ops::Code;
 use std::marker::Model;
 
@@ -52,10 +52,10 @@ impl<'a> Program<'a> {
         ensures exact { result ≡ reading.program_of bytes.now }
         ensures spelled { IfOk result (λ p. IsProgram p × (bytes.now ≡ program_bytes p)) }
     {
-        let (counts, rest) = counts_front(bytes)?;
-        let (entries, rest) = entries_front(rest, counts)?;
-        let (code, rest) = bytes_front(rest, counts.code_len)?;
-        let (mask, rest) = mask_front(rest, counts.code_len)?;
+        let (counts, rest) = read_counts(bytes)?;
+        let (entries, rest) = read_entries(rest, counts)?;
+        let (code, rest) = read_bytes(rest, counts.code_len)?;
+        let (mask, rest) = read_mask(rest, counts.code_len)?;
         if !rest.is_empty() {
             return Err(BlobFault::LeftOver);
         }
@@ -117,14 +117,14 @@ impl<'a> Program<'a> {
 }
 
 /// The counts and the width off the front.
-#[tactic(auto, unfolding(crate::specs::Reading::counts_front))]
-fn counts_front(bytes: &[u8]) -> Result<(Counts, &[u8]), BlobFault>
-    ensures value { reading.Gives (λ x. (x.0, x.1.now)) result (reading.counts_front bytes.now) }
+#[tactic(auto, unfolding(crate::specs::Reading::read_counts))]
+fn read_counts(bytes: &[u8]) -> Result<(Counts, &[u8]), BlobFault>
+    ensures value { reading.Gives (λ x. (x.0, x.1.now)) result (reading.read_counts bytes.now) }
     ensures width { IfOk result (λ x. x.0.width ≤ 8) }
 {
-    let (table_len, rest) = natural_front(bytes)?;
-    let (width, rest) = width_front(rest, table_len)?;
-    let (code_len, rest) = natural_front(rest)?;
+    let (table_len, rest) = read_natural(bytes)?;
+    let (width, rest) = read_width(rest, table_len)?;
+    let (code_len, rest) = read_natural(rest)?;
     let counts = Counts {
         table_len,
         width,
@@ -134,12 +134,12 @@ fn counts_front(bytes: &[u8]) -> Result<(Counts, &[u8]), BlobFault>
 }
 
 /// The width of the entries of a table of `table_len` off the front.
-#[tactic(auto, unfolding(crate::specs::Reading::width_front))]
-fn width_front(bytes: &[u8], table_len: u64) -> Result<(u8, &[u8]), BlobFault>
-    ensures value { reading.Gives (λ x. (x.0, x.1.now)) result (reading.width_front table_len bytes.now) }
+#[tactic(auto, unfolding(crate::specs::Reading::read_width))]
+fn read_width(bytes: &[u8], table_len: u64) -> Result<(u8, &[u8]), BlobFault>
+    ensures value { reading.Gives (λ x. (x.0, x.1.now)) result (reading.read_width table_len bytes.now) }
     ensures bound { IfOk result (λ x. x.0 ≤ 8) }
 {
-    let (width, rest) = byte_front(bytes)?;
+    let (width, rest) = read_byte(bytes)?;
     if width > 8 || (width == 0 && table_len > 0) {
         return Err(BlobFault::BadWidth);
     }
@@ -147,23 +147,23 @@ fn width_front(bytes: &[u8], table_len: u64) -> Result<(u8, &[u8]), BlobFault>
 }
 
 /// The bytes of a table off the front. No slice has as many bytes as a product past 2^64 says.
-fn entries_front(bytes: &[u8], counts: Counts) -> Result<(&[u8], &[u8]), BlobFault>
-    ensures value { reading.Gives (λ x. (x.0.now, x.1.now)) result (reading.bytes_front (counts.table_len * counts.width) bytes.now) }
+fn read_entries(bytes: &[u8], counts: Counts) -> Result<(&[u8], &[u8]), BlobFault>
+    ensures value { reading.Gives (λ x. (x.0.now, x.1.now)) result (reading.read_bytes (counts.table_len * counts.width) bytes.now) }
     ensures whole { IfOk result (λ x. length x.0.now ≡ counts.table_len * counts.width) }
 {
     match counts.table_len.checked_mul(u64::from(counts.width)) {
-        Some(len) => bytes_front(bytes, len),
+        Some(len) => read_bytes(bytes, len),
         None => Err(BlobFault::Truncated),
     }
 }
 
 /// The mask of `code_len` bytes of code off the front, with no bit set past them.
-#[tactic(auto, unfolding(crate::specs::Reading::mask_front))]
-fn mask_front(bytes: &[u8], code_len: u64) -> Result<(&[u8], &[u8]), BlobFault>
-    ensures value { reading.Gives (λ x. (x.0.now, x.1.now)) result (reading.mask_front code_len bytes.now) }
+#[tactic(auto, unfolding(crate::specs::Reading::read_mask))]
+fn read_mask(bytes: &[u8], code_len: u64) -> Result<(&[u8], &[u8]), BlobFault>
+    ensures value { reading.Gives (λ x. (x.0.now, x.1.now)) result (reading.read_mask code_len bytes.now) }
     ensures whole { IfOk result (λ x. length x.0.now ≡ (code_len + 7) / 8) }
 {
-    let (mask, rest) = bytes_front(bytes, code_len.div_ceil(8))?;
+    let (mask, rest) = read_bytes(bytes, code_len.div_ceil(8))?;
     let last = mask.get((code_len / 8) as usize).copied().unwrap_or(0);
     if last >> (code_len % 8) != 0 {
         return Err(BlobFault::BadPadding);

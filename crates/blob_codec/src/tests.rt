@@ -1,5 +1,5 @@
 use super::*;
-use crate::fields::natural_front;
+use crate::fields::read_natural;
 use crate::naturals_out::put_natural;
 use pvm_ops::Bytes8;
 use std::test::*;
@@ -33,7 +33,7 @@ fn spells_and_reads_naturals(rt: HostRuntime) -> Result<(), Fail> {
         let mut out = Bytes8::new(rt.alloc());
         put_natural(x, &mut out)?;
         assert_eq!(rt; out.as_slice(), want, "at {x:x}");
-        let (read, rest) = natural_front(want)?;
+        let (read, rest) = read_natural(want)?;
         assert_eq!(rt; read, x);
         assert!(rt; rest.is_empty());
     }
@@ -95,7 +95,7 @@ fn takes_no_natural_that_is_cut_or_overlong(rt: HostRuntime) -> Result<(), Fail>
         (b"\xff\xff\xff\xff\xff\xff\xff\xff\x00", BlobFault::Overlong),
     ];
     for (bytes, want) in faulty {
-        assert_eq!(rt; natural_front(bytes).err(), Some(want), "at {bytes:?}");
+        assert_eq!(rt; read_natural(bytes).err(), Some(want), "at {bytes:?}");
     }
     Ok(())
 }

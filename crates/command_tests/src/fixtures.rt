@@ -151,7 +151,7 @@ pub(crate) fn holds(outside: &Outside, container: &[u8], out: &[u8], err: &[u8])
 }
 
 /// Whether the arguments, with this object, give the status and write these bytes.
-pub(crate) fn comes_to(
+pub(crate) fn results_in(
     alloc: Global,
     object: &[u8],
     line: &[&[u8]],
@@ -167,5 +167,5 @@ pub(crate) fn comes_to(
 
 /// Whether arguments are a usage error.
 pub(crate) fn is_faulty(alloc: Global, line: &[&[u8]]) -> Result<bool, AllocError> {
-    comes_to(alloc, b"", line, Status::Usage, b"", b"", USAGE)
+    results_in(alloc, b"", line, Status::Usage, b"", b"", USAGE)
 }

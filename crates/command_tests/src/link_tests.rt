@@ -91,7 +91,7 @@ fn fail(outside: &mut Outside, failing: Failing) -> Result<(), AllocError> {
 
 /// Whether the link of an object is refused with this line.
 fn is_refused(alloc: Global, object: &[u8], line: &[u8]) -> Result<bool, AllocError> {
-    comes_to(alloc, object, &LINK, Status::Refused, b"", b"", line)
+    results_in(alloc, object, &LINK, Status::Refused, b"", b"", line)
 }
 
 /// Whether a link in which a call fails is a file fault that leaves these bytes.
@@ -113,7 +113,7 @@ fn links_an_object(rt: HostRuntime) -> Result<(), Fail> {
     let object = object(rt.alloc())?;
     let container = container(rt.alloc())?;
     assert!(rt;
-        comes_to(
+        results_in(
             rt.alloc(),
             &object,
             &LINK,
@@ -155,7 +155,7 @@ fn refuses_a_name_twice(rt: HostRuntime) -> Result<(), Fail> {
     let object = object(rt.alloc())?;
     let line: [&[u8]; 5] = [b"link", b"o", b"o", b"-o", b"b"];
     assert!(rt;
-        comes_to(
+        results_in(
             rt.alloc(),
             &object,
             &line,
@@ -173,7 +173,7 @@ fn refuses_a_name_twice(rt: HostRuntime) -> Result<(), Fail> {
 fn links_an_object_of_no_text(rt: HostRuntime) -> Result<(), Fail> {
     let object = object_of_no_text(rt.alloc())?;
     assert!(rt;
-        comes_to(
+        results_in(
             rt.alloc(),
             &object,
             &LINK,
@@ -191,7 +191,7 @@ fn links_an_object_of_no_text(rt: HostRuntime) -> Result<(), Fail> {
 fn links_an_object_that_loops(rt: HostRuntime) -> Result<(), Fail> {
     let object = object_of_a_loop(rt.alloc())?;
     assert!(rt;
-        comes_to(
+        results_in(
             rt.alloc(),
             &object,
             &LINK,
@@ -233,7 +233,7 @@ fn refuses_other_files(rt: HostRuntime) -> Result<(), Fail> {
 }
 
 #[test]
-fn answers_faulty_command_lines(rt: HostRuntime) -> Result<(), Fail> {
+fn answers_usage_errors(rt: HostRuntime) -> Result<(), Fail> {
     let lines: [&[&[u8]]; 9] = [
         &[],
         &[b"link"],
@@ -255,7 +255,7 @@ fn answers_faulty_command_lines(rt: HostRuntime) -> Result<(), Fail> {
 fn answers_a_missing_object(rt: HostRuntime) -> Result<(), Fail> {
     let line: [&[u8]; 4] = [b"link", b"-o", b"b", b"c"];
     assert!(rt;
-        comes_to(
+        results_in(
             rt.alloc(),
             b"",
             &line,
@@ -280,7 +280,7 @@ fn answers_failing_calls(rt: HostRuntime) -> Result<(), Fail> {
 }
 
 #[test]
-fn tells_want_of_memory(rt: HostRuntime) -> Result<(), Fail> {
+fn reports_out_of_memory(rt: HostRuntime) -> Result<(), Fail> {
     let mut err = MemorySink::new(rt.alloc(), 100)?;
     let status = out_of_memory(&mut err);
     assert_eq!(rt; status, Status::Memory);

@@ -120,7 +120,7 @@ fn starts_with_data(rt: HostRuntime) -> Result<(), Fail> {
 
 /// Without an argument there is no page where it would begin.
 #[test]
-fn tells_page_faults(rt: HostRuntime) -> Result<(), Fail> {
+fn reports_page_faults(rt: HostRuntime) -> Result<(), Fail> {
     assert!(rt;
         ends_with(
             rt.alloc(),

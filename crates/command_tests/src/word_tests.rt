@@ -188,7 +188,7 @@ fn passes_entries_on_in_order(rt: HostRuntime) -> Result<(), Fail> {
     ];
     for (line, refusal) in rows {
         assert!(rt;
-            comes_to(
+            results_in(
                 rt.alloc(),
                 &object,
                 line,

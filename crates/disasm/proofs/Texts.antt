@@ -34,7 +34,7 @@ hex-more bytes at byte less is =
 -- the end is the first that is marked, or that of the code
 pub end_of-is : (code : Listing) (at end : ℕ) → at < end → end ≤ length code.bytes → ((p : ℕ) → at + 1 ≤ p → p < end → is_marked code p ≡ false) → (end < length code.bytes → is_marked code end ≡ true) → end ≡ end_of code at
 unfolding end_of
-end_of-is code at end behind within none here =
+end_of-is code at end after within none here =
     let far = length code.bytes - (at + 1) in
     let walk = run_before-is (is_marked code) far (at + 1) (end - (at + 1)) (omega arith)
     (λ p from to. none p from (omega arith))

@@ -3,7 +3,7 @@ ghost use Rattle.std.specs.Io.KnownBytes.{Appends};
 ghost use Rattle.std.specs.List.{slice_range};
 ghost use Rattle.arrayvec.specs.ArrayString.{array_string_len};
 ghost use Rattle.faults.specs.Present.{each_below};
-ghost use Rattle.outside.specs.Outside.{AppendsFront, HasCause};
+ghost use Rattle.outside.specs.Outside.{AppendsPrefix, HasCause};
 ghost use Rattle.pvm_ops.specs.Listing.{is_marked};
 ghost use Rattle.disasm.specs.Digits.{hex, hex_digits};
 ghost use Rattle.disasm.specs.Disassembly.{disassembly, end_of, entry_line, instruction, line, line_at, size_line};
@@ -31,7 +31,7 @@ use pvm_ops::Code;
 pub fn disassemble<S: Sink>(program: &Program<'_>, out: &mut S) -> Result<(), Failed>
     requires { length program.now.code.bytes ≤ 2 ^ 32 }
     ensures ok { OnOk result (Appends (S.bytes out.old) (S.bytes out.new) (disassembly program.now)) }
-    ensures err { OnErr result (AppendsFront (S.bytes out.old) (S.bytes out.new) (disassembly program.now)) }
+    ensures err { OnErr result (AppendsPrefix (S.bytes out.old) (S.bytes out.new) (disassembly program.now)) }
     ensures cause { HasCause (S.faults out.old) (S.faults out.new) result }
 {
     let mut text = ArrayString::new();
@@ -57,7 +57,7 @@ fn push_sizes(program: &Program<'_>, text: &mut Text)
 /// Adds the lines of the marked positions.
 fn put_lines<S: Sink>(code: &Code<'_>, text: &mut Text, out: &mut S) -> Result<(), Failed>
     ensures ok { OnOk result (Adds (S.bytes out.old) (S.bytes out.new) text.old.bytes text.new.bytes (each_below (length code.now.bytes) (line_at code.now))) }
-    ensures err { OnErr result (AppendsFront (S.bytes out.old) (S.bytes out.new) (text.old.bytes ++ each_below (length code.now.bytes) (line_at code.now))) }
+    ensures err { OnErr result (AppendsPrefix (S.bytes out.old) (S.bytes out.new) (text.old.bytes ++ each_below (length code.now.bytes) (line_at code.now))) }
     ensures cause { HasCause (S.faults out.old) (S.faults out.new) result }
 {
     for at in 0..code.len() {
@@ -74,7 +74,7 @@ fn put_line_at<S: Sink>(
     out: &mut S,
 ) -> Result<(), Failed>
     ensures ok { OnOk result (Adds (S.bytes out.old) (S.bytes out.new) text.old.bytes text.new.bytes (line_at code.now at)) }
-    ensures err { OnErr result (AppendsFront (S.bytes out.old) (S.bytes out.new) (text.old.bytes ++ line_at code.now at)) }
+    ensures err { OnErr result (AppendsPrefix (S.bytes out.old) (S.bytes out.new) (text.old.bytes ++ line_at code.now at)) }
     ensures cause { HasCause (S.faults out.old) (S.faults out.new) result }
 {
     if !code.marked(at) {
@@ -88,7 +88,7 @@ fn put_line_at<S: Sink>(
 fn put_line<S: Sink>(code: &Code<'_>, at: u64, text: &mut Text, out: &mut S) -> Result<(), Failed>
     requires { is_marked code.now at ≡ true }
     ensures ok { OnOk result (Adds (S.bytes out.old) (S.bytes out.new) text.old.bytes text.new.bytes (line code.now at)) }
-    ensures err { OnErr result (AppendsFront (S.bytes out.old) (S.bytes out.new) (text.old.bytes ++ line code.now at)) }
+    ensures err { OnErr result (AppendsPrefix (S.bytes out.old) (S.bytes out.new) (text.old.bytes ++ line code.now at)) }
     ensures cause { HasCause (S.faults out.old) (S.faults out.new) result }
 {
     make_room(text, out)?;
@@ -144,7 +144,7 @@ fn end_of(code: &Code<'_>, at: u64) -> u64
 /// Adds bytes in hexadecimal.
 fn put_bytes<S: Sink>(bytes: &[u8], text: &mut Text, out: &mut S) -> Result<(), Failed>
     ensures ok { OnOk result (Adds (S.bytes out.old) (S.bytes out.new) text.old.bytes text.new.bytes (hex bytes.now)) }
-    ensures err { OnErr result (AppendsFront (S.bytes out.old) (S.bytes out.new) (text.old.bytes ++ hex bytes.now)) }
+    ensures err { OnErr result (AppendsPrefix (S.bytes out.old) (S.bytes out.new) (text.old.bytes ++ hex bytes.now)) }
     ensures cause { HasCause (S.faults out.old) (S.faults out.new) result }
 {
     for at in 0..bytes.len() {
@@ -157,7 +157,7 @@ fn put_bytes<S: Sink>(bytes: &[u8], text: &mut Text, out: &mut S) -> Result<(), 
 /// Adds the lines of the jump table.
 fn put_table<S: Sink>(program: &Program<'_>, text: &mut Text, out: &mut S) -> Result<(), Failed>
     ensures ok { OnOk result (Adds (S.bytes out.old) (S.bytes out.new) text.old.bytes text.new.bytes (each_below (length program.now.table) (entry_line program.now))) }
-    ensures err { OnErr result (AppendsFront (S.bytes out.old) (S.bytes out.new) (text.old.bytes ++ each_below (length program.now.table) (entry_line program.now))) }
+    ensures err { OnErr result (AppendsPrefix (S.bytes out.old) (S.bytes out.new) (text.old.bytes ++ each_below (length program.now.table) (entry_line program.now))) }
     ensures cause { HasCause (S.faults out.old) (S.faults out.new) result }
 {
     for entry in 0..program.table_len() {
@@ -183,7 +183,7 @@ fn push_entry(program: &Program<'_>, entry: u64, text: &mut Text)
 fn make_room<S: Sink>(text: &mut Text, out: &mut S) -> Result<(), Failed>
     ensures ok { OnOk result (Adds (S.bytes out.old) (S.bytes out.new) text.old.bytes text.new.bytes []) }
     ensures room { OnOk result (array_string_len text.new + LINE_LEN ≤ PIECE_LEN) }
-    ensures err { OnErr result (AppendsFront (S.bytes out.old) (S.bytes out.new) text.old.bytes) }
+    ensures err { OnErr result (AppendsPrefix (S.bytes out.old) (S.bytes out.new) text.old.bytes) }
     ensures cause { HasCause (S.faults out.old) (S.faults out.new) result }
 {
     if text.len() + LINE_LEN > PIECE_LEN {

@@ -6,4 +6,4 @@ pub mod Places
 pub mod Order
 pub mod BoolParts
 pub mod Records
-pub mod Sound
+pub mod Keeping

@@ -12,5 +12,5 @@ pub mod Rules
 pub mod Faults
 pub mod FirstFaults
 pub mod Reading
-pub mod Sound
+pub mod Keeping
 pub mod Index

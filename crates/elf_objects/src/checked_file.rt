@@ -10,7 +10,7 @@ ghost use Rattle.elf_objects.specs.FileObject.{section_of, is_compressed, number
 ghost use Rattle.elf_objects.specs.Faults.{faults_of};
 ghost use Rattle.elf_objects.specs.FirstFaults.{early_refusal, sections_refusal};
 ghost use Rattle.elf_objects.specs.Reading.{Refuses, in_object as fault_in_object};
-ghost use Rattle.elf_objects.specs.Sound.{KeepsSection, KeepsSymbol, KeepsRelocation};
+ghost use Rattle.elf_objects.specs.Keeping.{KeepsSection, KeepsSymbol, KeepsRelocation};
 ghost use Rattle.elf_objects.specs.Index.{IsIndexed, LeadsTo};
 
 use crate::fault::{Fault, ObjectFault, Refusal};

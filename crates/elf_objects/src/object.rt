@@ -1,7 +1,7 @@
 ghost use Rattle.std.specs.Prelude.{◌≡◌, ◌≤◌, ◌<◌, ◌^◌, length, slice_get, Some, MatchResult, IsSomeAnd};
 ghost use Rattle.elf_objects.specs.Objects.{relocations_of, ShowsSection, ShowsSymbol};
 ghost use Rattle.elf_objects.specs.Reading.{object_of, Refuses};
-ghost use Rattle.elf_objects.specs.Sound.{KeepsSection, KeepsSymbol, KeepsRelocation};
+ghost use Rattle.elf_objects.specs.Keeping.{KeepsSection, KeepsSymbol, KeepsRelocation};
 
 use crate::checked_file::CheckedFile;
 use crate::fault::ObjectFault;

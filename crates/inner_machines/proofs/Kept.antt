@@ -20,7 +20,7 @@ use Rattle.pvm_machine.specs.declared.answers.Step.TheVariants as step
 use Rattle.page_memory.proofs.Counted.{len-with_bytes}
 use Rattle.page_memory.proofs.Views.{no_frames}
 use Rattle.inner_machines.specs.Inner.{Inner, Inners, most_machines, most_program_bytes, most_frames, frames, program_bytes, least_free}
-use Rattle.inner_machines.specs.Calls.{answers, new_inner, page_after, change_pages, with_changed_pages, word_at, words_at, or_empty, at_work, worked, told_by, ran, nest_call, ok}
+use Rattle.inner_machines.specs.Calls.{answers, new_inner, page_after, change_pages, with_changed_pages, word_at, words_at, or_empty, at_work, worked, reported_by, ran, nest_call, ok}
 use Rattle.inner_machines.specs.Views.{with_slot}
 use Rattle.inner_machines.specs.CallRules.{IsInner, InnersFit, CallsAnswerWell, IsOrPanics, CallsPanic}
 use Rattle.inner_machines.proofs.Cases.{each_call}
@@ -102,22 +102,22 @@ module _ (within : StepsStayWithin) (s : State) (is : IsState s) (inners : Inner
   set_good : (t : State) (at word : ℕ) → IsState t → word < 2 ^ 64 → IsState (with_register t at word)
   set_good t at word is_t small = registers_stay t at word is_t small
 
-  told_good : (how : Step) → NamesWord how → IsState (record s { registers = told_by s.registers how })
-  told_good step.Halt names = set_good s 7 0 is (omega arith)
-  told_good step.Panic names = set_good s 7 1 is (omega arith)
-  told_good (step.Fault address) names = set_good (with_register s 7 2) 8 address (set_good s 7 2 is (omega arith)) names
-  told_good (step.Host number) names = set_good (with_register s 7 3) 8 number (set_good s 7 3 is (omega arith)) names
-  told_good step.OutOfGas names = set_good s 7 4 is (omega arith)
-  told_good step.Next names = is
-  told_good step.Memory names = is
+  reported_good : (how : Step) → NamesWord how → IsState (record s { registers = reported_by s.registers how })
+  reported_good step.Halt names = set_good s 7 0 is (omega arith)
+  reported_good step.Panic names = set_good s 7 1 is (omega arith)
+  reported_good (step.Fault address) names = set_good (with_register s 7 2) 8 address (set_good s 7 2 is (omega arith)) names
+  reported_good (step.Host number) names = set_good (with_register s 7 3) 8 number (set_good s 7 3 is (omega arith)) names
+  reported_good step.OutOfGas names = set_good s 7 4 is (omega arith)
+  reported_good step.Next names = is
+  reported_good step.Memory names = is
 
   ran_good : (inner : Inner) (gas : ℕ) (r : Stepped) (m : Machine) → map.get inners (register s 7) ≡ Some inner → m.state.memory ≡ inner.memory → IsWithin m r → Good (ran s inners inner gas r)
   ran_good inner gas r m got same w =
-      let told = told_good r.answer w.names in
+      let reported = reported_good r.answer w.names in
       let pages : map.len r.machine.state.memory ≡ map.len inner.memory = w.pages ∙ ap map.len same in
       let after = one_stays inners (register s 7) inner (record inner { memory = r.machine.state.memory; counter = r.machine.counter }) are got (record { program = (are.each (register s 7) inner got).program; counter = w.counter }) (omega (arith, pages)) in
       record {
-        good_state = record { registers = told.registers; heap_top = told.heap_top; heap_bound = told.heap_bound };
+        good_state = record { registers = reported.registers; heap_top = reported.heap_top; heap_bound = reported.heap_bound };
         held_fits = record { shares = record { heap = refl; shared = omega (arith, after.few) }; each = after.each };
       }
 

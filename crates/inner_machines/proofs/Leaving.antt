@@ -6,7 +6,7 @@ use Rattle.machine_state.specs.State.{State, register, with_memory}
 use Rattle.pvm_machine.specs.Stepped.{Stepped}
 use Rattle.pvm_machine.specs.Machine.{Machine}
 use Rattle.inner_machines.specs.Inner.{Inner, Inners}
-use Rattle.inner_machines.specs.Calls.{nested, answers, ran, told_by, with_words, with_worked}
+use Rattle.inner_machines.specs.Calls.{nested, answers, ran, reported_by, with_words, with_worked}
 use Rattle.inner_machines.specs.Served.{under_gas}
 use Rattle.inner_machines.specs.declared.answer.Served.TheVariants.{Done, OutOfGas}
 
@@ -22,7 +22,7 @@ leaves m m' inners inners' s word is =
 -- an inner machine that worked with gas that the calling one has
 pub ran_leaves :
     (m m' : Machine) (inners : Inners) (inner : Inner) (gas left : ℕ) (r : Stepped) → r.machine.gas ≡ left → left ≤ gas → gas ≤ m.gas
-    → m' ≡ record m { state = (nested (with_memory m.state (with_words m.state.memory (register m.state 8) (r.machine.gas ∷ r.machine.state.registers))) (told_by m.state.registers r.answer) (with_worked inners (register m.state 7) inner r)).state; gas = m.gas - (gas - left) }
+    → m' ≡ record m { state = (nested (with_memory m.state (with_words m.state.memory (register m.state 8) (r.machine.gas ∷ r.machine.state.registers))) (reported_by m.state.registers r.answer) (with_worked inners (register m.state 7) inner r)).state; gas = m.gas - (gas - left) }
     → record { outer = m'; inners = with_worked inners (register m.state 7) inner r; answer = Done } ≡ under_gas m inners (ran m.state inners inner gas r)
 ran_leaves m m' inners inner gas left r left_is less enough is =
     let test : nat_le (gas - r.machine.gas + r.machine.gas) m.gas ≡ true = grind (arith, nat_tests, left_is, less, enough) in

@@ -12,7 +12,7 @@ use Rattle.pvm_machine.specs.Stepped.{Stepped}
 use Rattle.pvm_machine.specs.declared.answers.Step.{Step}
 use Rattle.pvm_machine.specs.declared.answers.Step.TheVariants as step
 use Rattle.inner_machines.specs.Inner.{Inner, Inners}
-use Rattle.inner_machines.specs.Calls.{answers, ran, word_at, words_at, with_words, worked, told_by, ok}
+use Rattle.inner_machines.specs.Calls.{answers, ran, word_at, words_at, with_words, worked, reported_by, ok}
 use Rattle.inner_machines.specs.Laws.{BytesStay, written_by, KeepsOuter, OuterStays}
 use Rattle.inner_machines.proofs.Cases.{each_call}
 use Rattle.inner_machines.proofs.Free.{length-words}
@@ -22,7 +22,7 @@ use Rattle.inner_machines.proofs.Written.{bytes_stay, words_stay}
 same_bytes : (at len : ℕ) (m : Memory) → BytesStay at len m m
 same_bytes at len m = record { modes = λ _ _. refl; bytes = λ _ _. refl }
 
-told_keeps : (registers : List ℕ) (how : Step) (at : ℕ) → at ≢ 7 → at ≢ 8 → slice_index (told_by registers how) at ≡ slice_index registers at
+told_keeps : (registers : List ℕ) (how : Step) (at : ℕ) → at ≢ 7 → at ≢ 8 → slice_index (reported_by registers how) at ≡ slice_index registers at
 told_keeps registers step.Halt at seven eight = get_or-set_other registers 7 at 0 0 seven
 told_keeps registers step.Panic at seven eight = get_or-set_other registers 7 at 1 0 seven
 told_keeps registers (step.Fault address) at seven eight = get_or-set_other _ 8 at address 0 eight ∙ get_or-set_other registers 7 at 2 0 seven

@@ -6,7 +6,7 @@ use Rattle.numbers.specs.Bytes.{number_of}
 use Rattle.blob_codec.specs.declared.fault.BlobFault.{BlobFault}
 use Rattle.blob_codec.specs.declared.fault.BlobFault.TheVariants.{Truncated}
 use Rattle.blob_codec.specs.Grammar.{Program, natural_len}
-use Rattle.blob_codec.specs.Reading.{◌>>=◌, byte_front, bytes_front, number_front, following, led_number, natural_front, width_front, counts_front, mask_front, program_of}
+use Rattle.blob_codec.specs.Reading.{◌>>=◌, read_byte, read_bytes, read_number, following, led_number, read_natural, read_width, read_counts, read_mask, program_of}
 
 -- what is left after reading is no longer
 abbrev Shortens : {A : Type 0} → ℕ → Result (A × List ℕ) BlobFault → Type 0
@@ -29,18 +29,18 @@ then_short n (Err fault) next h k = tt
 less : (k n : ℕ) (bytes : List ℕ) → length bytes ≤ n → length (drop k bytes) ≤ n
 less k n bytes h = omega (arith, length-drop k bytes, h)
 
-byte_shortens : (n : ℕ) (bytes : List ℕ) → length bytes ≤ n → Shortens n (byte_front bytes)
+byte_shortens : (n : ℕ) (bytes : List ℕ) → length bytes ≤ n → Shortens n (read_byte bytes)
 byte_shortens n [] h = tt
 byte_shortens n (byte ∷ rest) h = omega (arith, h)
 
-number_shortens : (n k : ℕ) (bytes : List ℕ) → length bytes ≤ n → Shortens n (number_front k bytes)
+number_shortens : (n k : ℕ) (bytes : List ℕ) → length bytes ≤ n → Shortens n (read_number k bytes)
 number_shortens n k bytes h = by_test (nat_lt (length bytes) k)
   where
     by_test : (b : Bool) → Shortens n (if b then Err Truncated else Ok (number_of (take k bytes), drop k bytes))
     by_test true = tt
     by_test false = less k n bytes h
 
-bytes_shorten : (n k : ℕ) (bytes : List ℕ) → length bytes ≤ n → Shortens n (bytes_front k bytes)
+bytes_shorten : (n k : ℕ) (bytes : List ℕ) → length bytes ≤ n → Shortens n (read_bytes k bytes)
 bytes_shorten n k bytes h = by_test (nat_lt (length bytes) k)
   where
     by_test : (b : Bool) → Shortens n (if b then Err Truncated else Ok (take k bytes, drop k bytes))
@@ -56,28 +56,28 @@ tested_not : {A : Type 0} (n : ℕ) (b : Bool) (x : A × List ℕ) (fault : Blob
 tested_not n true x fault h = tt
 tested_not n false x fault h = h
 
-natural_shortens : (n : ℕ) (bytes : List ℕ) → length bytes ≤ n → Shortens n (natural_front bytes)
-unfolding natural_front
+natural_shortens : (n : ℕ) (bytes : List ℕ) → length bytes ≤ n → Shortens n (read_natural bytes)
+unfolding read_natural
 natural_shortens n bytes h =
-    then_shortens n (byte_front bytes) _ (byte_shortens n bytes h)
-    (λ first k. then_shortens n (number_front (following first.0) first.1) _ (number_shortens n (following first.0) first.1 k)
+    then_shortens n (read_byte bytes) _ (byte_shortens n bytes h)
+    (λ first k. then_shortens n (read_number (following first.0) first.1) _ (number_shortens n (following first.0) first.1 k)
     (λ low l. tested n (natural_len (led_number first.0 (following first.0) low.0) == following first.0) (led_number first.0 (following first.0) low.0, low.1) _ l))
 
-width_shortens : (n table_len : ℕ) (bytes : List ℕ) → length bytes ≤ n → Shortens n (width_front table_len bytes)
-unfolding width_front
+width_shortens : (n table_len : ℕ) (bytes : List ℕ) → length bytes ≤ n → Shortens n (read_width table_len bytes)
+unfolding read_width
 width_shortens n table_len bytes h =
-    then_shortens n (byte_front bytes) _ (byte_shortens n bytes h)
+    then_shortens n (read_byte bytes) _ (byte_shortens n bytes h)
     (λ width k. tested_not n (nat_lt 8 width.0 || (width.0 == 0 && nat_lt 0 table_len)) width _ k)
 
-counts_shorten : (n : ℕ) (bytes : List ℕ) → length bytes ≤ n → Shortens n (counts_front bytes)
-unfolding counts_front
+counts_shorten : (n : ℕ) (bytes : List ℕ) → length bytes ≤ n → Shortens n (read_counts bytes)
+unfolding read_counts
 counts_shorten n bytes h =
-    then_shortens n (natural_front bytes) _ (natural_shortens n bytes h)
-    (λ table_len k. then_shortens n (width_front table_len.0 table_len.1) _ (width_shortens n table_len.0 table_len.1 k)
-    (λ width l. then_shortens n (natural_front width.1) _ (natural_shortens n width.1 l) (λ code_len m. m)))
+    then_shortens n (read_natural bytes) _ (natural_shortens n bytes h)
+    (λ table_len k. then_shortens n (read_width table_len.0 table_len.1) _ (width_shortens n table_len.0 table_len.1 k)
+    (λ width l. then_shortens n (read_natural width.1) _ (natural_shortens n width.1 l) (λ code_len m. m)))
 
 -- as many bytes as there are at most
-code_short : (n k : ℕ) (bytes : List ℕ) (next : List ℕ × List ℕ → Result Program BlobFault) → length bytes ≤ n → ((x : List ℕ × List ℕ) → length x.0 ≤ n → IsShort n (next x)) → IsShort n (bytes_front k bytes >>= next)
+code_short : (n k : ℕ) (bytes : List ℕ) (next : List ℕ × List ℕ → Result Program BlobFault) → length bytes ≤ n → ((x : List ℕ × List ℕ) → length x.0 ≤ n → IsShort n (next x)) → IsShort n (read_bytes k bytes >>= next)
 code_short n k bytes next h rest = by_test (nat_lt (length bytes) k)
   where
     by_test : (b : Bool) → IsShort n ((if b then Err Truncated else Ok (take k bytes, drop k bytes)) >>= next)
@@ -96,10 +96,10 @@ program_short : (bytes : List ℕ) → IsShort (length bytes) (program_of bytes)
 unfolding program_of
 program_short bytes =
     let n = length bytes in
-    then_short n (counts_front bytes) _ (counts_shorten n bytes (omega arith))
-    (λ counts k. then_short n (bytes_front (counts.0.table_len * counts.0.width) counts.1) _ (bytes_shorten n (counts.0.table_len * counts.0.width) counts.1 k)
+    then_short n (read_counts bytes) _ (counts_shorten n bytes (omega arith))
+    (λ counts k. then_short n (read_bytes (counts.0.table_len * counts.0.width) counts.1) _ (bytes_shorten n (counts.0.table_len * counts.0.width) counts.1 k)
     (λ entries l. code_short n counts.0.code_len entries.1 _ l
-    (λ code m. then_any n (mask_front counts.0.code_len code.1) _
+    (λ code m. then_any n (read_mask counts.0.code_len code.1) _
     (λ mask. last_short n (length mask.1 == 0) _ _ m))))
 
 -- the code of a program that bytes spell

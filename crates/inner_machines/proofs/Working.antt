@@ -2,14 +2,14 @@
 use Rattle.std.proofs.Common.{◌≡◌, ◌≢◌, ℕ, zero, suc, ◌≤◌, List, length, Option, Some, None, refl, sym, ◌∙◌, subst, arith}
 use Rattle.std.specs.FinMap as map
 use Rattle.runs.specs.Machine.{Outcome, Next, Jump, Call, Ends}
-use Rattle.runs.specs.Laid.{Fetched}
+use Rattle.runs.specs.Lockstep.{Fetched}
 use Rattle.machine_state.specs.State.{State}
 use Rattle.machine_state.specs.Ends.{End, Halt, Panic, Fault, Unanswered, BadReply}
 use Rattle.page_memory.specs.Laws.{StoresKeepPages}
 use Rattle.blob_codec.specs.Reading.{program_of}
 use Rattle.pvm_machine.specs.Machine.{Machine}
-use Rattle.pvm_machine.specs.Step.{Standing, does_at, instr_at}
-use Rattle.pvm_machine.specs.Stepped.{Stepped, came_out, begun, stepped, go_on, repeated, Keeps}
+use Rattle.pvm_machine.specs.Step.{FetchedInstr, does_at, instr_at}
+use Rattle.pvm_machine.specs.Stepped.{Stepped, after_outcome, begun, stepped, go_on, repeated, Keeps}
 use Rattle.pvm_machine.specs.declared.answers.Step.{Step}
 use Rattle.pvm_machine.specs.declared.answers.Step.TheVariants as answer
 use Rattle.pvm_machine.proofs.Steps.{begins, no_step}
@@ -18,44 +18,44 @@ use Rattle.inner_machines.specs.Inner.{Inner}
 use Rattle.inner_machines.specs.Calls.{or_empty, at_work, worked}
 
 -- no step that is defined answers that an allocation failed
-came_out_not : (m : Machine) (next : ℕ) (x : Outcome ℕ State End) → (came_out m next x).answer ≢ answer.Memory
-came_out_not m next (Next s) = λ e. cc
-came_out_not m next (Jump target s) = λ e. cc
-came_out_not m next (Call number s) = λ e. cc
-came_out_not m next (Ends (Halt registers memory)) = λ e. cc
-came_out_not m next (Ends (Panic memory)) = λ e. cc
-came_out_not m next (Ends (Fault address memory)) = λ e. cc
-came_out_not m next (Ends (Unanswered number memory)) = λ e. cc
-came_out_not m next (Ends (BadReply line address memory)) = λ e. cc
+after_outcome_not : (m : Machine) (next : ℕ) (x : Outcome ℕ State End) → (after_outcome m next x).answer ≢ answer.Memory
+after_outcome_not m next (Next s) = λ e. cc
+after_outcome_not m next (Jump target s) = λ e. cc
+after_outcome_not m next (Call number s) = λ e. cc
+after_outcome_not m next (Ends (Halt registers memory)) = λ e. cc
+after_outcome_not m next (Ends (Panic memory)) = λ e. cc
+after_outcome_not m next (Ends (Fault address memory)) = λ e. cc
+after_outcome_not m next (Ends (Unanswered number memory)) = λ e. cc
+after_outcome_not m next (Ends (BadReply line address memory)) = λ e. cc
 
-begun_not : (m : Machine) (o : Option (Fetched Standing ℕ)) → (begun m o).answer ≢ answer.Memory
+begun_not : (m : Machine) (o : Option (Fetched FetchedInstr ℕ)) → (begun m o).answer ≢ answer.Memory
 begun_not m None = λ e. cc
-begun_not m (Some f) = came_out_not m f.next (does_at m.table m.code f.instr m.state)
+begun_not m (Some f) = after_outcome_not m f.next (does_at m.table m.code f.instr m.state)
 
-abbrev IsTold : Stepped → Type 0
-IsTold r = r.answer ≢ answer.Memory
+abbrev IsReported : Stepped → Type 0
+IsReported r = r.answer ≢ answer.Memory
 
-stepped_not : (m : Machine) → IsTold (stepped m)
+stepped_not : (m : Machine) → IsReported (stepped m)
 stepped_not m = by_gas m.gas refl
   where
-    by_gas : (gas : ℕ) → m.gas ≡ gas → IsTold (stepped m)
-    by_gas zero none = subst IsTold (sym (no_step m none)) (λ e. cc)
-    by_gas (suc k) some = subst IsTold (sym (begins m k some)) (begun_not (record m { gas = k }) (instr_at m.code m.counter))
+    by_gas : (gas : ℕ) → m.gas ≡ gas → IsReported (stepped m)
+    by_gas zero none = subst IsReported (sym (no_step m none)) (λ e. cc)
+    by_gas (suc k) some = subst IsReported (sym (begins m k some)) (begun_not (record m { gas = k }) (instr_at m.code m.counter))
 
 module _ (keep : StoresKeepPages) where
-  as_told : (m : Machine) (how : Step) → (stepped m).answer ≡ how → record { machine = (stepped m).machine; answer = how } ≡ stepped m
-  as_told m how e = λ i. record { machine = (stepped m).machine; answer = sym e i }
+  as_reported : (m : Machine) (how : Step) → (stepped m).answer ≡ how → record { machine = (stepped m).machine; answer = how } ≡ stepped m
+  as_reported m how e = λ i. record { machine = (stepped m).machine; answer = sym e i }
 
   stepped_keeps : (m : Machine) → Keeps m (stepped m).machine
   stepped_keeps m = by_answer (stepped m).answer refl
     where
       by_answer : (how : Step) → (stepped m).answer ≡ how → Keeps m (stepped m).machine
-      by_answer answer.Next e = step_keeps keep m _ answer.Next (as_told m answer.Next e)
-      by_answer answer.Halt e = step_keeps keep m _ answer.Halt (as_told m answer.Halt e)
-      by_answer answer.Panic e = step_keeps keep m _ answer.Panic (as_told m answer.Panic e)
-      by_answer (answer.Fault address) e = step_keeps keep m _ (answer.Fault address) (as_told m (answer.Fault address) e)
-      by_answer answer.OutOfGas e = step_keeps keep m _ answer.OutOfGas (as_told m answer.OutOfGas e)
-      by_answer (answer.Host number) e = step_keeps keep m _ (answer.Host number) (as_told m (answer.Host number) e)
+      by_answer answer.Next e = step_keeps keep m _ answer.Next (as_reported m answer.Next e)
+      by_answer answer.Halt e = step_keeps keep m _ answer.Halt (as_reported m answer.Halt e)
+      by_answer answer.Panic e = step_keeps keep m _ answer.Panic (as_reported m answer.Panic e)
+      by_answer (answer.Fault address) e = step_keeps keep m _ (answer.Fault address) (as_reported m (answer.Fault address) e)
+      by_answer answer.OutOfGas e = step_keeps keep m _ answer.OutOfGas (as_reported m answer.OutOfGas e)
+      by_answer (answer.Host number) e = step_keeps keep m _ (answer.Host number) (as_reported m (answer.Host number) e)
       by_answer answer.Memory e = absurd (stepped_not m e)
 
   -- what steps without a heap keep

@@ -175,14 +175,14 @@ unfoldable pub worked : Inner → List ℕ → ℕ → Stepped
 worked inner registers gas = all_steps (at_work (or_empty (program_of inner.program)) inner registers gas)
 
 -- how it stopped, in registers 7 and 8 of the machine that calls. No run ends with one of the last two.
-abbrev pub told_by : List ℕ → Step → List ℕ
-told_by registers step.Halt = slice_set registers 7 0
-told_by registers step.Panic = slice_set registers 7 1
-told_by registers (step.Fault address) = slice_set (slice_set registers 7 2) 8 address
-told_by registers (step.Host number) = slice_set (slice_set registers 7 3) 8 number
-told_by registers step.OutOfGas = slice_set registers 7 4
-told_by registers step.Next = registers
-told_by registers step.Memory = registers
+abbrev pub reported_by : List ℕ → Step → List ℕ
+reported_by registers step.Halt = slice_set registers 7 0
+reported_by registers step.Panic = slice_set registers 7 1
+reported_by registers (step.Fault address) = slice_set (slice_set registers 7 2) 8 address
+reported_by registers (step.Host number) = slice_set (slice_set registers 7 3) 8 number
+reported_by registers step.OutOfGas = slice_set registers 7 4
+reported_by registers step.Next = registers
+reported_by registers step.Memory = registers
 
 -- the machines after one of them has worked
 abbrev pub with_worked : Inners → ℕ → Inner → Stepped → Inners
@@ -192,7 +192,7 @@ with_worked inners number inner r = map.insert inners number (record inner { mem
 abbrev pub ran : State → Inners → Inner → ℕ → Stepped → Answer Inners
 ran s inners inner gas r =
     Answered (gas - r.machine.gas) r.machine.gas
-    (nested (with_memory s (with_words s.memory (register s 8) (r.machine.gas ∷ r.machine.state.registers))) (told_by s.registers r.answer)
+    (nested (with_memory s (with_words s.memory (register s 8) (r.machine.gas ∷ r.machine.state.registers))) (reported_by s.registers r.answer)
     (with_worked inners (register s 7) inner r))
 
 -- 12, invoke: machine r7, with the words at r8: the gas that it is given, and its thirteen registers. What happens if

@@ -2,7 +2,7 @@ ghost use Rattle.std.specs.Prelude.{◌≡◌, ◌+◌, ◌<◌, ◌≤◌, ◌^
 ghost use Rattle.std.specs.Option.{option_copied};
 ghost use Rattle.std.specs.FinMap as map;
 ghost use Rattle.inner_machines.specs.Inner.{Inner, no_inners, machines, most_machines, frames, most_frames};
-ghost use Rattle.inner_machines.specs.Calls.{nested, expunge_call, pages_call, peek_call, poke_call, machine_call, invoke_call, worked, words_at, with_worked, told_by, place_for, new_inner, is_mapping, has_pages, with_changed_pages};
+ghost use Rattle.inner_machines.specs.Calls.{nested, expunge_call, pages_call, peek_call, poke_call, machine_call, invoke_call, worked, words_at, with_worked, reported_by, place_for, new_inner, is_mapping, has_pages, with_changed_pages};
 ghost use Rattle.page_memory.specs.Access.{least_refused};
 ghost use Rattle.pvm_machine.specs.Ran.{last_answer};
 ghost use Rattle.pvm_machine.specs.Outcomes.{with_registers};
@@ -307,14 +307,14 @@ impl Nest {
         }
         let (exit, left) = self.work(number, outer.memory_mut(), at, gas);
         outer.spend(gas - left);
-        tell(outer, exit);
+        report(outer, exit);
         outer.set_frame_limit(MOST_FRAMES - self.frames());
         Served::Done
     }
 
     /// The machine with a number works, as `Inner::work` says.
     fn work(&mut self, number: u64, outer: &mut Memory, at: u32, gas: u64) -> (Exit, u64)
-        requires stands { IsSome (map.get self.old number) }
+        requires is_there { IsSome (map.get self.old number) }
         requires fits { at + 112 ≤ 2 ^ 32 }
         requires free { least_refused outer.old true at 112 ≡ None }
         ensures less { result.1 ≤ gas }
@@ -329,8 +329,8 @@ impl Nest {
 }
 
 /// Sets registers 7 and 8 of the machine that calls by how an inner machine stopped.
-fn tell(outer: &mut Machine<'_>, exit: Exit)
-    ensures { outer.new ≡ record outer.old { state = with_registers outer.old.state (told_by outer.old.state.registers (last_answer exit)) } }
+fn report(outer: &mut Machine<'_>, exit: Exit)
+    ensures { outer.new ≡ record outer.old { state = with_registers outer.old.state (reported_by outer.old.state.registers (last_answer exit)) } }
 {
     match exit {
         Exit::Halt => outer.set_register(7, 0),

@@ -554,9 +554,9 @@ fn plain_immediate(at: usize, len: usize, end: usize) -> u64
 fn fetches_immediates_up_to_the_end_of_a_long_code(rt: HostRuntime) {
     let bytes = patterned();
     for at in 64..80usize {
-        for behind in 0..=40usize {
-            let end = at + 1 + behind;
-            let few = behind.min(24);
+        for after in 0..=40usize {
+            let end = at + 1 + after;
+            let few = after.min(24);
             let load = fetched_of(51, at, end);
             let want = plain_immediate(at + 2, few.saturating_sub(1).min(4), end);
             assert_eq!(rt; load.x, want, "load_imm at {at} of {end}");
@@ -567,7 +567,7 @@ fn fetches_immediates_up_to_the_end_of_a_long_code(rt: HostRuntime) {
                 "load_imm_64 at {at} of {end}"
             );
             let store = fetched_of(30, at, end);
-            let len = if behind > 0 {
+            let len = if after > 0 {
                 usize::from(bytes[at + 1] % 8).min(4)
             } else {
                 0

@@ -11,7 +11,7 @@ use Rattle.pvm_ops.specs.BlockList.{Block, BlockList, block_at, empty_block}
 use Rattle.jump_table.specs.Assembly.{Member, entry_len, members, groups, members_of, instrs_of, first_of, words, instr_position, start_of, placed, code_of}
 use Rattle.jump_table.specs.Laws.{IsPlaceable, IsAssemblable}
 use Rattle.jump_table.proofs.Written.{position_le}
-use Rattle.jump_table.proofs.Entries.{length-behind}
+use Rattle.jump_table.proofs.Entries.{length-after}
 use Rattle.jump_table.proofs.Blocks.{instrs_same, groups_position, groups_get, block_member, member_instr, placed_size}
 
 -- the words of lists of instructions, joined
@@ -95,7 +95,7 @@ first_end list =
 -- how many bytes the code has
 pub code_size : (lengths : List ℕ) (list : BlockList) → length (code_of lengths list).bytes ≡ entry_len * length list.entries + length (joined (words (members_of lengths list)))
 unfolding code_of
-code_size lengths list = omega (arith, length-behind lengths list 0 list.entries (placed lengths list 0 (members_of lengths list)), placed_size lengths list 0 (members_of lengths list))
+code_size lengths list = omega (arith, length-after lengths list 0 list.entries (placed lengths list 0 (members_of lengths list)), placed_size lengths list 0 (members_of lengths list))
 
 -- the position after the last block is the end of the code
 pub start_end : (lengths : List ℕ) (list : BlockList) → start_of lengths list (length list.blocks) ≡ length (code_of lengths list).bytes

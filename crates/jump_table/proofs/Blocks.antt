@@ -6,7 +6,7 @@ use Rattle.std.proofs.Math.Seq.{get_or-append_seam}
 use Rattle.std.proofs.lemmas.List.{map-append, length-map}
 use Rattle.std.proofs.lemmas.Option.{slice_get-map, slice_get-get_or}
 use Rattle.runs.specs.Joined.{joined, position}
-use Rattle.runs.proofs.HasAt.{HasAt, stands_at, position_first, position_next}
+use Rattle.runs.proofs.HasAt.{HasAt, has_list_at, position_first, position_next}
 use Rattle.pvm_ops.specs.declared.instr.Instr.{Instr}
 use Rattle.pvm_ops.specs.Opcodes.{form_of}
 use Rattle.pvm_ops.specs.Offsets.{has_offset}
@@ -58,7 +58,7 @@ pub block_member : (lengths : List ℕ) (list : BlockList) (block : ℕ) (b : Bl
 block_member lengths list block b k i e f =
     let make : Instr → Member = λ i. record { instr = i; len = slice_index lengths block; target = b.target } in
     let there = inside (members_of lengths list) (position (groups lengths list.blocks) block) (members (slice_index lengths block) b) k (make i)
-    (stands_at (groups lengths list.blocks) block _ (groups_get lengths list.blocks block b e))
+    (has_list_at (groups lengths list.blocks) block _ (groups_get lengths list.blocks block b e))
     (slice_get-map make b.instrs k ∙ ap (option_map make) f) in
     rw (← groups_position lengths list.blocks block) there
 
@@ -127,7 +127,7 @@ front_have target [] h = tt
 front_have target (i ∷ is) h = ((λ has. (let none = h.0 in absurd cc)), front_have target is h.1)
 
 block_has : (b : Block) → IsBlock b → AllByRecursion (HasTarget b.target) b.instrs
-block_has b e = subst (λ is. AllByRecursion (HasTarget b.target) is) (sym e.is) (all_append _ e.front (e.last ∷ []) (front_have b.target e.front e.plain) ((λ has. sym e.aimed ∙ has), tt))
+block_has b e = subst (λ is. AllByRecursion (HasTarget b.target) is) (sym e.is) (all_append _ e.front (e.last ∷ []) (front_have b.target e.front e.plain) ((λ has. sym e.targeted ∙ has), tt))
 
 members_have : (lengths : List ℕ) (bs : List Block) → ((k : ℕ) (b : Block) → slice_get bs k ≡ Some b → IsBlock b) → AllByRecursion (λ (m : Member). HasTarget m.target m.instr) (joined (groups lengths bs))
 members_have lengths [] h = tt
@@ -138,13 +138,13 @@ pub member_has : (lengths : List ℕ) (list : BlockList) → ((k : ℕ) (b : Blo
 member_has lengths list h number m e = all_at (λ (m : Member). HasTarget m.target m.instr) (members_of lengths list) number m (members_have lengths list.blocks h) e
 
 -- targets are blocks of the list
-aimed_below : (count : ℕ) (lengths : List ℕ) (bs : List Block) → ((k target : ℕ) (b : Block) → slice_get bs k ≡ Some b → b.target ≡ Some target → target < count) → AllByRecursion (λ (m : Member). (target : ℕ) → m.target ≡ Some target → target < count) (joined (groups lengths bs))
-aimed_below count lengths [] h = tt
-aimed_below count [] (b ∷ bs) h = all_append _ (members 0 b) (joined (groups [] bs)) (all_map _ _ b.instrs (all_of_each _ b.instrs (λ i target f. h 0 target b refl f))) (aimed_below count [] bs (λ k target c e f. h (suc k) target c e f))
-aimed_below count (len ∷ lengths) (b ∷ bs) h = all_append _ (members len b) (joined (groups lengths bs)) (all_map _ _ b.instrs (all_of_each _ b.instrs (λ i target f. h 0 target b refl f))) (aimed_below count lengths bs (λ k target c e f. h (suc k) target c e f))
+targeted_below : (count : ℕ) (lengths : List ℕ) (bs : List Block) → ((k target : ℕ) (b : Block) → slice_get bs k ≡ Some b → b.target ≡ Some target → target < count) → AllByRecursion (λ (m : Member). (target : ℕ) → m.target ≡ Some target → target < count) (joined (groups lengths bs))
+targeted_below count lengths [] h = tt
+targeted_below count [] (b ∷ bs) h = all_append _ (members 0 b) (joined (groups [] bs)) (all_map _ _ b.instrs (all_of_each _ b.instrs (λ i target f. h 0 target b refl f))) (targeted_below count [] bs (λ k target c e f. h (suc k) target c e f))
+targeted_below count (len ∷ lengths) (b ∷ bs) h = all_append _ (members len b) (joined (groups lengths bs)) (all_map _ _ b.instrs (all_of_each _ b.instrs (λ i target f. h 0 target b refl f))) (targeted_below count lengths bs (λ k target c e f. h (suc k) target c e f))
 
-pub member_aims : (lengths : List ℕ) (list : BlockList) → ((k target : ℕ) (b : Block) → slice_get list.blocks k ≡ Some b → b.target ≡ Some target → target < length list.blocks) → (number target : ℕ) (m : Member) → slice_get (members_of lengths list) number ≡ Some m → m.target ≡ Some target → target < length list.blocks
-member_aims lengths list h number target m e f = all_at (λ (m : Member). (target : ℕ) → m.target ≡ Some target → target < length list.blocks) (members_of lengths list) number m (aimed_below (length list.blocks) lengths list.blocks h) e target f
+pub member_targets : (lengths : List ℕ) (list : BlockList) → ((k target : ℕ) (b : Block) → slice_get list.blocks k ≡ Some b → b.target ≡ Some target → target < length list.blocks) → (number target : ℕ) (m : Member) → slice_get (members_of lengths list) number ≡ Some m → m.target ≡ Some target → target < length list.blocks
+member_targets lengths list h number target m e f = all_at (λ (m : Member). (target : ℕ) → m.target ≡ Some target → target < length list.blocks) (members_of lengths list) number m (targeted_below (length list.blocks) lengths list.blocks h) e target f
 
 -- an instruction is as long with its offset
 pub placed_length : (lengths : List ℕ) (list : BlockList) (number : ℕ) (target : Option ℕ) (i : Instr) (len : ℕ) → length (spelling (placed_instr lengths list number target i) len) ≡ length (spelling i len)

@@ -127,24 +127,24 @@ entry_position lengths list at (b ∷ bs) rest (suc entry) le =
     omega (arith, length-jump (offset at (start_of lengths list b)))
 
 -- the instructions after the jumps
-pub behind_get : (lengths : List ℕ) (list : BlockList) (at : ℕ) (entries : List ℕ) (rest : List Member) (q : ℕ) → slice_get (entry_jumps lengths list at entries ++ rest) (length entries + q) ≡ slice_get rest q
-behind_get lengths list at [] rest q = let n : 0 + q ≡ q = omega arith in rw n refl
-behind_get lengths list at (b ∷ bs) rest q =
+pub after_get : (lengths : List ℕ) (list : BlockList) (at : ℕ) (entries : List ℕ) (rest : List Member) (q : ℕ) → slice_get (entry_jumps lengths list at entries ++ rest) (length entries + q) ≡ slice_get rest q
+after_get lengths list at [] rest q = let n : 0 + q ≡ q = omega arith in rw n refl
+after_get lengths list at (b ∷ bs) rest q =
     let n : suc (length bs) + q ≡ suc (length bs + q) = omega arith in
-    rw n (behind_get lengths list (at + entry_len) bs rest q)
+    rw n (after_get lengths list (at + entry_len) bs rest q)
 
 -- and where
-pub behind_position : (lengths : List ℕ) (list : BlockList) (at : ℕ) (entries : List ℕ) (rest : List Member) (q : ℕ) → position (words (entry_jumps lengths list at entries ++ rest)) (length entries + q) ≡ entry_len * length entries + position (words rest) q
-behind_position lengths list at [] rest q = let n : 0 + q ≡ q = omega arith in rw n (omega arith)
-behind_position lengths list at (b ∷ bs) rest q =
+pub after_position : (lengths : List ℕ) (list : BlockList) (at : ℕ) (entries : List ℕ) (rest : List Member) (q : ℕ) → position (words (entry_jumps lengths list at entries ++ rest)) (length entries + q) ≡ entry_len * length entries + position (words rest) q
+after_position lengths list at [] rest q = let n : 0 + q ≡ q = omega arith in rw n (omega arith)
+after_position lengths list at (b ∷ bs) rest q =
     let n : suc (length bs) + q ≡ suc (length bs + q) = omega arith in
-    let r = behind_position lengths list (at + entry_len) bs rest q in
+    let r = after_position lengths list (at + entry_len) bs rest q in
     rw n (omega (arith, length-jump (offset at (start_of lengths list b))))
 
 -- the length of it all
-pub length-behind : (lengths : List ℕ) (list : BlockList) (at : ℕ) (entries : List ℕ) (rest : List Member) → length (joined (words (entry_jumps lengths list at entries ++ rest))) ≡ entry_len * length entries + length (joined (words rest))
-length-behind lengths list at [] rest = omega arith
-length-behind lengths list at (b ∷ bs) rest =
-    let r = length-behind lengths list (at + entry_len) bs rest in
+pub length-after : (lengths : List ℕ) (list : BlockList) (at : ℕ) (entries : List ℕ) (rest : List Member) → length (joined (words (entry_jumps lengths list at entries ++ rest))) ≡ entry_len * length entries + length (joined (words rest))
+length-after lengths list at [] rest = omega arith
+length-after lengths list at (b ∷ bs) rest =
+    let r = length-after lengths list (at + entry_len) bs rest in
     let x = offset at (start_of lengths list b) in
     omega (arith, length-jump x, length-append (spelling (jump x) offset_len) (joined (words (entry_jumps lengths list (at + entry_len) bs ++ rest))))

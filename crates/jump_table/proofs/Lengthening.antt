@@ -23,18 +23,18 @@ start_before (s ∷ shapes) (l ∷ lens) zero len (suc u) le = absurd (omega ari
 start_before (s ∷ shapes) (l ∷ lens) (suc n) len (suc u) le = let rest = start_before shapes lens n len u (omega arith) in ap (λ at. size_with s l + at) rest
 
 -- and moves those behind it
-start_behind : (shapes : List Shape) (lens : List ℕ) (n len u t : ℕ) (s : Shape) → slice_get shapes n ≡ Some s → s.target ≡ Some t → n < length lens → n < u → start shapes (slice_set lens n len) u + slice_index lens n ≡ start shapes lens u + len
-start_behind [] lens n len u t s e et within lt = absurd cc
-start_behind (x ∷ shapes) [] n len u t s e et within lt = absurd (omega arith)
-start_behind (x ∷ shapes) (l ∷ lens) n len zero t s e et within lt = absurd (omega arith)
-start_behind (x ∷ shapes) (l ∷ lens) zero len (suc u) t s e et within lt =
+start_after : (shapes : List Shape) (lens : List ℕ) (n len u t : ℕ) (s : Shape) → slice_get shapes n ≡ Some s → s.target ≡ Some t → n < length lens → n < u → start shapes (slice_set lens n len) u + slice_index lens n ≡ start shapes lens u + len
+start_after [] lens n len u t s e et within lt = absurd cc
+start_after (x ∷ shapes) [] n len u t s e et within lt = absurd (omega arith)
+start_after (x ∷ shapes) (l ∷ lens) n len zero t s e et within lt = absurd (omega arith)
+start_after (x ∷ shapes) (l ∷ lens) zero len (suc u) t s e et within lt =
     let same : x ≡ s = cc in
     let target : x.target ≡ Some t = ap (λ (y : Shape). y.target) same ∙ et in
     let more : offset_bytes x.target len ≡ len = ap (λ o. offset_bytes o len) target in
     let less : offset_bytes x.target l ≡ l = ap (λ o. offset_bytes o l) target in
     omega (arith, more, less)
-start_behind (x ∷ shapes) (l ∷ lens) (suc n) len (suc u) t s e et within lt =
-    let rest = start_behind shapes lens n len u t s e et (omega arith) (omega arith) in
+start_after (x ∷ shapes) (l ∷ lens) (suc n) len (suc u) t s e et within lt =
+    let rest = start_after shapes lens n len u t s e et (omega arith) (omega arith) in
     omega (arith, rest)
 
 -- lengths that do not change have not grown too far
@@ -110,7 +110,7 @@ module _ (shapes : List Shape) (lens : List ℕ) (p : Places) (placed : ArePlace
         → ((t : ℕ) → t < length p.starts.items → block < t → place_of q t ≡ place_of p t + by)
         → q.end ≡ p.end + by → q.end ≤ most_bytes
         → ArePlaced shapes (slice_set lens block len) q
-    placed_one q by is_by starts shifts before behind end small = record {
+    placed_one q by is_by starts shifts before after end small = record {
       base = placed.base;
       count = length-set _ _ _ ∙ placed.count;
       starts_count = starts ∙ placed.starts_count;
@@ -118,10 +118,10 @@ module _ (shapes : List Shape) (lens : List ℕ) (p : Places) (placed : ArePlace
       shifts_few = omega (arith, shifts, placed.shifts_few);
       are = λ t lt.
           ⊎_elim
-          (λ (less : block < t). omega (arith, behind t (omega (arith, lt, placed.starts_count)) less, placed.are t lt, start_behind shapes lens block len t is.target is.shape is.there is.is_target inside less, is_by))
+          (λ (less : block < t). omega (arith, after t (omega (arith, lt, placed.starts_count)) less, placed.are t lt, start_after shapes lens block len t is.target is.shape is.there is.is_target inside less, is_by))
           (λ (le : t ≤ block). before t (omega (arith, lt, placed.starts_count)) le ∙ placed.are t lt ∙ ap (λ at. placed.base + at) (sym (start_before shapes lens block len t le)))
           (cases_lt block t);
-      is_end = omega (arith, end, placed.is_end, start_behind shapes lens block len (length shapes) is.target is.shape is.there is.is_target inside within, is_by);
+      is_end = omega (arith, end, placed.is_end, start_after shapes lens block len (length shapes) is.target is.shape is.there is.is_target inside within, is_by);
       small = small;
       targets = placed.targets;
     }

@@ -76,9 +76,9 @@ module _ (list : BlockList) (plain : IsAssemblable list) where
       slice_get-map (λ (m : Member). spelling m.instr m.len) (members_of lengths list) number ∙ ap (option_map (λ (m : Member). spelling m.instr m.len)) member in
       let next = position_next (words (members_of lengths list)) number (spelling is.last len) word in
       let n : number + 1 ≡ first_of list (block + 1) = omega (arith, first_next list block b e, block_length b is) in
-      let behind : instr_position lengths list (number + 1) ≡ base + start (shapes_of list) lengths (block + 1) = ap (instr_position lengths list) n ∙ start_shaped lengths (block + 1) in
+      let after : instr_position lengths list (number + 1) ≡ base + start (shapes_of list) lengths (block + 1) = ap (instr_position lengths list) n ∙ start_shaped lengths (block + 1) in
       let more = start_more (shapes_of list) lengths block (shape_of b) (shape_at list block b e) in
-      omega (arith, next, behind, more, last_grows b is len, shape_last b is)
+      omega (arith, next, after, more, last_grows b is len, shape_last b is)
 
   -- ---- wide enough
 
@@ -97,7 +97,7 @@ module _ (list : BlockList) (plain : IsAssemblable list) where
         let number = first_of list i + length is.front in
         let member = block_member lengths list i of.b (length is.front) is.last of.there (block_last of.b is) in
         let target : of.b.target ≡ Some t = ap (λ (x : Shape). x.target) of.is ∙ et in
-        let has : has_offset (form_of is.last.op) ≡ true = is.aimed ∙ ap is_some target in
+        let has : has_offset (form_of is.last.op) ≡ true = is.targeted ∙ ap is_some target in
         let fit = wide.fits number t _ member target has in
         let from : instr_position lengths list number ≡ base + (start (shapes_of list) lengths i + s.front) = last_shaped lengths i of.b of.there ∙ ap (λ (x : Shape). base + (start (shapes_of list) lengths i + x.front)) of.is in
         fits_earlier (slice_index lengths i) base _ _

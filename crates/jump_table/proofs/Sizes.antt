@@ -67,7 +67,7 @@ by_target (Some target) len = refl
 
 -- the last instruction of a block, with its offset
 pub last_grows : (b : Block) (e : IsBlock b) (len : ℕ) → length (spelling e.last len) ≡ length (spelling e.last 0) + offset_bytes b.target len
-last_grows b e len = spelling_grows e.last len ∙ ap (λ h. length (spelling e.last 0) + bytes_of h len) e.aimed ∙ ap (λ n. length (spelling e.last 0) + n) (by_target b.target len)
+last_grows b e len = spelling_grows e.last len ∙ ap (λ h. length (spelling e.last 0) + bytes_of h len) e.targeted ∙ ap (λ n. length (spelling e.last 0) + n) (by_target b.target len)
 
 -- those in front of the last, and the last
 count_front : (b : Block) (e : IsBlock b) → length b.instrs - 1 ≡ length e.front

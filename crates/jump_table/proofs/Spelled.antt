@@ -7,7 +7,7 @@ use Rattle.runs.proofs.HasAt.{position_next}
 use Rattle.pvm_ops.specs.declared.instr.Instr.{Instr}
 use Rattle.pvm_ops.specs.Listing.{is_marked, is_stop}
 use Rattle.pvm_ops.specs.Opcodes.{is_known}
-use Rattle.pvm_ops.specs.Spelling.{spelling, IsEncodable, Reads, StandsAt}
+use Rattle.pvm_ops.specs.Spelling.{spelling, IsEncodable, Reads, IsAloneAt}
 use Rattle.pvm_ops.proofs.ReadBack.{reads-back}
 use Rattle.jump_table.specs.Assembly.{Member, words}
 use Rattle.jump_table.specs.Laws.{Fetches}
@@ -40,8 +40,8 @@ all_stop is q =
     ] refl
 
 -- an instruction of the list stands alone at its position
-stands_alone : (is : List Member) (q : ℕ) (i : Member) → slice_get is q ≡ Some i → StandsAt (written (words is)) i.instr (position (words is) q) i.len
-stands_alone is q i e =
+is_alone_at_position : (is : List Member) (q : ℕ) (i : Member) → slice_get is q ≡ Some i → IsAloneAt (written (words is)) i.instr (position (words is) q) i.len
+is_alone_at_position is q i e =
     let word = spelled_word is q i e in
     record {
       bytes = word_reads (words is) q _ word;
@@ -53,7 +53,7 @@ stands_alone is q i e =
 -- so it is fetched there, with the position of the next after it
 pub spelled_fetches : (is : List Member) (q : ℕ) (i : Member) → slice_get is q ≡ Some i → IsTrue (is_known i.instr.op) → IsEncodable i.instr i.len → Fetches (written (words is)) (position (words is) q) i.instr (position (words is) (q + 1))
 spelled_fetches is q i e known ok =
-    let alone = stands_alone is q i e in
+    let alone = is_alone_at_position is q i e in
     let next = position_next (words is) q _ (spelled_word is q i e) in
     let op = op_read _ _ i.instr i.len alone.bytes in
     record {

@@ -67,8 +67,8 @@ pub starts_first : (code : Listing) (i : Instr) (next : ℕ) → Fetches code 0 
 starts_first code i next h = rw (h.marked, h.known) refl
 
 -- a block starts at an instruction after one that ends its block
-pub starts_behind : (code : Listing) (from : ℕ) (j : Instr) (at : ℕ) (i : Instr) (next : ℕ) → Fetches code from j at → is_terminator j.op ≡ true → Fetches code at i next → is_start code at ≡ true
-starts_behind code from j at i next before ends h =
-    let behind = fetched_next code from j at before in
+pub starts_after : (code : Listing) (from : ℕ) (j : Instr) (at : ℕ) (i : Instr) (next : ℕ) → Fetches code from j at → is_terminator j.op ≡ true → Fetches code at i next → is_start code at ≡ true
+starts_after code from j at i next before ends h =
+    let after = fetched_next code from j at before in
     let led = passes_below (leads code at) at from (omega arith) (terminator_leads code from j at before ends) in
     rw (h.marked, h.known, led) (or-true (nat_eq at 0))

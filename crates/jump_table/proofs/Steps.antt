@@ -17,7 +17,7 @@ use Rattle.jump_table.specs.Lengths.{IsWide}
 use Rattle.jump_table.specs.Laws.{IsAssemblable}
 use Rattle.jump_table.specs.Assembling.{most_bytes, AreStarts, HasRoom, with_mark, with_word, with_words, instr_at}
 use Rattle.jump_table.proofs.Spelled.{some_spelling}
-use Rattle.jump_table.proofs.Entries.{offset_fits, jump_encodable, length-behind}
+use Rattle.jump_table.proofs.Entries.{offset_fits, jump_encodable, length-after}
 use Rattle.jump_table.proofs.Blocks.{block_member, member_instr, first_next, all_map, all_of_each, placed_length, placed_size}
 use Rattle.jump_table.proofs.Placed.{placed_op, placed_encodable}
 use Rattle.jump_table.proofs.BlockStarts.{group_at, groups_count, code_size, position_within}
@@ -58,7 +58,7 @@ placed_words lengths list number xs ys = ap words (placed_append lengths list nu
 -- the bytes of the entries' jumps
 pub entries_size : (lengths : List ℕ) (list : BlockList) (at : ℕ) (entries : List ℕ) → length (joined (words (entry_jumps lengths list at entries))) ≡ entry_len * length entries
 entries_size lengths list at entries =
-    let all = length-behind lengths list at entries [] in
+    let all = length-after lengths list at entries [] in
     let none = ap (λ (ms : List Member). length (joined (words ms))) (append-nil (entry_jumps lengths list at entries)) in
     omega arith
 

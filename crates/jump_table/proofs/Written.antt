@@ -8,7 +8,7 @@ use Rattle.std.proofs.lemmas.Bool.{cases_lt}
 use Rattle.std.proofs.lemmas.Bool.Decides.{nat_tests}
 use Rattle.runs.specs.Joined.{joined, position}
 use Rattle.runs.specs.Marks.{others, marks}
-use Rattle.runs.proofs.HasAt.{HasAt, stands_at, position_next, position_past}
+use Rattle.runs.proofs.HasAt.{HasAt, has_list_at, position_next, position_past}
 use Rattle.runs.proofs.Words.{marks_length, marked_at}
 use Rattle.pvm_ops.specs.Listing.{Listing, is_marked, is_stop, packed}
 use Rattle.pvm_ops.specs.Spelling.{Reads}
@@ -25,7 +25,7 @@ has_reads bytes at (x ∷ xs) h = (get_or_from_slice_get bytes at x 0 h.0, has_r
 
 -- a word is read at its position
 pub word_reads : (ws : List (List ℕ)) (k : ℕ) (w : List ℕ) → slice_get ws k ≡ Some w → Reads (joined ws) (position ws k) w
-word_reads ws k w e = has_reads (joined ws) (position ws k) w (stands_at ws k w e)
+word_reads ws k w e = has_reads (joined ws) (position ws k) w (has_list_at ws k w e)
 
 -- as many marks as bytes
 marks_joined : (ws : List (List ℕ)) → length (joined (map marks ws)) ≡ length (joined ws)

@@ -38,7 +38,7 @@ pub record IsBlock (b : Block) : Type 0 where
   pub last : Instr
   pub is : b.instrs ≡ front ++ last ∷ []
   pub plain : AllByRecursion HasNoOffset front
-  pub aimed : has_offset (form_of last.op) ≡ is_some b.target
+  pub targeted : has_offset (form_of last.op) ≡ is_some b.target
 
 -- what a list must be to be placed
 pub record IsAssemblable (list : BlockList) : Type 0 where

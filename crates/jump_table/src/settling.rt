@@ -5,7 +5,7 @@ ghost use Rattle.jump_table.specs.Settling.{place_of, ArePlaced, Grown, IsSpan};
 
 use crate::positions::{MOST_BYTES, least_len, place};
 use crate::shapes::Shape;
-use crate::slack::{Slack, Stretch};
+use crate::slack::{BlockRange, Slack};
 use std::alloc::{AllocError, Global};
 
 /// How many blocks have a shift in common.
@@ -56,10 +56,10 @@ pub(crate) fn settle(
         end,
     };
     for _ in 0..shapes.len().saturating_mul(LOOKS) {
-        let Some(stretch) = next(&mut slacks) else {
+        let Some(range) = next(&mut slacks) else {
             return Ok(());
         };
-        look(shapes, stretch, &mut places, lengths, &mut slacks)?;
+        look(shapes, range, &mut places, lengths, &mut slacks)?;
     }
     Ok(())
 }
@@ -75,19 +75,19 @@ fn slacks_of(alloc: Global, starts: &[u32], end: u32) -> Result<Vec<Slack>, Allo
 }
 
 /// The next blocks to look at, those for the shortest offsets first.
-fn next(slacks: &mut Vec<Slack>) -> Option<Stretch> {
+fn next(slacks: &mut Vec<Slack>) -> Option<BlockRange> {
     for slack in slacks.iter_mut() {
-        if let Some(stretch) = slack.next() {
-            return Some(stretch);
+        if let Some(range) = slack.next() {
+            return Some(range);
         }
     }
     None
 }
 
-/// Looks at the offsets of a length in a stretch of blocks.
+/// Looks at the offsets of a length in a range of blocks.
 fn look(
     shapes: &[Shape],
-    stretch: Stretch,
+    range: BlockRange,
     places: &mut Places,
     lengths: &mut Vec<u8>,
     slacks: &mut Vec<Slack>,
@@ -96,8 +96,8 @@ fn look(
     ensures placed { ArePlaced shapes.now lengths.new.items places.new }
     ensures grown { Grown shapes.now lengths.old.items lengths.new.items }
 {
-    for block in stretch.first..stretch.end.min(shapes.len()) {
-        if lengths[block] == stretch.len {
+    for block in range.first..range.end.min(shapes.len()) {
+        if lengths[block] == range.len {
             visit(shapes, block, places, lengths, slacks)?;
         }
     }
@@ -204,7 +204,7 @@ impl Places {
         ensures starts_count { length self.new.starts.items ≡ length self.old.starts.items }
         ensures shifts_count { length self.new.shifts.items ≡ length self.old.shifts.items }
         ensures before { (t : ℕ) → t < length self.old.starts.items → t ≤ block → place_of self.new t ≡ place_of self.old t }
-        ensures behind { (t : ℕ) → t < length self.old.starts.items → block < t → place_of self.new t ≡ place_of self.old t + by }
+        ensures after { (t : ℕ) → t < length self.old.starts.items → block < t → place_of self.new t ≡ place_of self.old t + by }
         ensures end { self.new.end ≡ self.old.end + by }
     {
         let shift = block / SHIFTED + 1;
@@ -224,7 +224,7 @@ fn add(numbers: &mut Vec<u32>, from: usize, to: usize, by: u32)
     ensures count { length numbers.new.items ≡ length numbers.old.items }
     ensures before { (k : ℕ) → k < from → slice_index numbers.new.items k ≡ slice_index numbers.old.items k }
     ensures among { (k : ℕ) → from ≤ k → k < to → slice_index numbers.new.items k ≡ slice_index numbers.old.items k + by }
-    ensures behind { (k : ℕ) → to ≤ k → slice_index numbers.new.items k ≡ slice_index numbers.old.items k }
+    ensures after { (k : ℕ) → to ≤ k → slice_index numbers.new.items k ≡ slice_index numbers.old.items k }
 {
     for at in from..to {
         numbers[at] += by;

@@ -25,7 +25,7 @@ struct Group {
 
 /// Neighbouring blocks, of which those with an offset of this length are to be looked at.
 #[derive(Clone, Copy)]
-pub(crate) struct Stretch {
+pub(crate) struct BlockRange {
     pub(crate) len: u8,
     pub(crate) first: usize,
     pub(crate) end: usize,
@@ -61,7 +61,7 @@ impl Slack {
     }
 
     /// The blocks of a group of the queue, whose offsets are then to be counted anew.
-    pub(crate) fn next(&mut self) -> Option<Stretch> {
+    pub(crate) fn next(&mut self) -> Option<BlockRange> {
         let number = self.queue.pop()?;
         if let Some(group) = self.groups.get_mut(number) {
             group.ahead = NO_OFFSET;
@@ -70,7 +70,7 @@ impl Slack {
         let size = group_size(self.len);
         let first = number.saturating_mul(size);
         let end = first.saturating_add(size);
-        Some(Stretch {
+        Some(BlockRange {
             len: self.len,
             first,
             end,

@@ -35,11 +35,11 @@ fold_none f a at = refl
 some_next : {A C : Type 0} (h : A → Option C) (xs : List A) (i : ℕ) (x : A) → slice_get xs i ≡ Some x → filter_map h (take (suc i) xs) ≡ filter_map h (take i xs) ++ cons_option (h x) []
 some_next {C = C} h [] i x e = absurd cc
 some_next {C = C} h (y ∷ xs) zero x e = (let same : y ≡ x = cc in rw same refl)
-some_next {C = C} h (y ∷ xs) (suc i) x e = behind (h y) _ _ (some_next h xs i x e)
+some_next {C = C} h (y ∷ xs) (suc i) x e = after (h y) _ _ (some_next h xs i x e)
   where
-    behind : (o : Option C) (more before : List C) → more ≡ before ++ cons_option (h x) [] → cons_option o more ≡ cons_option o before ++ cons_option (h x) []
-    behind None more before e = e
-    behind (Some z) more before e = ap (λ l. z ∷ l) e
+    after : (o : Option C) (more before : List C) → more ≡ before ++ cons_option (h x) [] → cons_option o more ≡ cons_option o before ++ cons_option (h x) []
+    after None more before e = e
+    after (Some z) more before e = ap (λ l. z ∷ l) e
 
 -- with what the next of a list gives
 pub fold_some :

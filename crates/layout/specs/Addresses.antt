@@ -10,7 +10,7 @@ use Rattle.elf_objects.specs.Objects.{Section, Object}
 use Rattle.symbols.specs.Parts.{object_at}
 use Rattle.symbols.specs.declared.place.Place.{Place}
 use Rattle.symbols.specs.Wanted.{Given, kept_objects}
-use Rattle.machine_state.specs.Start.{pages_of, read_only_start, start_behind}
+use Rattle.machine_state.specs.Start.{pages_of, read_only_start, start_after}
 use Rattle.layout.specs.Sections.{is_read_only, is_writable, is_zero, extent}
 use Rattle.layout.specs.Slots.{is_same, slot_places, slot_count}
 
@@ -59,7 +59,7 @@ read_only_len given = read_only_end given - read_only_start
 
 -- the writable part: where it begins and ends, and its bytes
 abbrev pub writable_start : Given → ℕ
-writable_start given = start_behind (read_only_len given)
+writable_start given = start_after (read_only_len given)
 
 abbrev pub writable_end : Given → ℕ
 writable_end given = end_of_objects is_writable (writable_start given) (kept_objects given)

@@ -6,7 +6,7 @@ use Rattle.symbols.specs.Wanted.{Given, kept_objects}
 use Rattle.machine_state.specs.Start.{read_only_start}
 use Rattle.layout.specs.Addresses.{slots_start, read_only_len, writable_start, writable_end, writable_len, zero_pages}
 use Rattle.layout.specs.Faults.{layout_faults}
-use Rattle.layout.specs.Steps.{behind_objects, AreAddresses}
+use Rattle.layout.specs.Steps.{after_objects, AreAddresses}
 use Rattle.layout.specs.declared.next.Next.{Next}
 use Rattle.layout.specs.declared.parts.Parts.{Parts}
 
@@ -21,7 +21,7 @@ pub record IsMeasured (given : Given) (parts : Parts) : Type 0 where
   pub writable_is : parts.writable_len ≡ writable_len given
   pub zero_pages_are : parts.zero_pages ≡ zero_pages given
   pub starts_are : parts.starts ≡ starts_of given
-  pub ends_fit : AreAddresses (behind_objects (starts_of given) (kept_objects given))
+  pub ends_fit : AreAddresses (after_objects (starts_of given) (kept_objects given))
   pub no_fault : layout_faults given ≡ []
 
 abbrev pub ReportsFault : Given → Fault → Type 0

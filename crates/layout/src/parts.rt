@@ -4,7 +4,7 @@ ghost use Rattle.layout.specs.Addresses.{end_of_slots as the_end_of_slots};
 ghost use Rattle.layout.specs.Faults.{whole};
 ghost use Rattle.layout.specs.Slots.{slot_count};
 ghost use Rattle.layout.specs.Parts.{IsMeasured, ReportsFault};
-ghost use Rattle.machine_state.specs.Start.{pages_of, start_behind};
+ghost use Rattle.machine_state.specs.Start.{pages_of, start_after};
 
 use crate::ends::{bytes_of_code, end_of_kind, next_multiple};
 use crate::fault::{CODE_TOO_LARGE, READ_ONLY_TOO_LARGE, WRITABLE_TOO_LARGE, ZERO_TOO_LARGE};
@@ -114,7 +114,7 @@ fn within(size: u64, most: u64, code: u8) -> Result<u64, Fault>
 /// Where the writable data begin after the given number of bytes of read-only data.
 fn writable_start_after(len: u64) -> u64
     requires { len < 2 ^ 24 }
-    ensures { result ≡ start_behind len }
+    ensures { result ≡ start_after len }
 {
     (2 + len.div_ceil(1 << 16)) << 16
 }

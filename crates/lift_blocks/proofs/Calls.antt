@@ -28,7 +28,7 @@ use Rattle.relocs.specs.Pairs.{is_pair, is_pair_at, all_places, next_place}
 use Rattle.relocs.specs.CodeMap.{place_of}
 use Rattle.relocs.specs.AddressMap.{if_links, link_of, link_at, last_word, place_at, address_named, addresses_named, named_places, needed_places}
 use Rattle.lift_blocks.specs.Operations.{Operation, Plain, Branch, Jal, Jalr, Pair, HostCall, Sbrk, rename, target_place, target_or, target_from, operand_at, placed_op, pair_op, stub_op, operation_in, operation_at}
-use Rattle.lift_blocks.specs.Listed.{entry_places, can_go_on, ends_block, target_of, target_in, target_at, next_of, onward_of, aimed_places, ends_at, starts, place, or_nowhere}
+use Rattle.lift_blocks.specs.Listed.{entry_places, can_go_on, ends_block, target_of, target_in, target_at, next_of, successor_of, targeted_places, ends_at, starts, place, or_nowhere}
 use Rattle.lift_blocks.specs.Laws.{CallsBeginBlocks}
 use Rattle.lift_blocks.proofs.OnePlaces.{all_append, all_each}
 use Rattle.lift_blocks.proofs.Order.{is_jump, pair_jumps, next_listed}
@@ -187,9 +187,9 @@ module _ (given : Given) where
   of_needed = all_passing IsNoReturn (has (named_places given)) (all_places given) (λ p e. among_is_none (named_places given) p of_named e)
 
   -- nothing aims at the second place of a stub
-  not_aimed : (n at : ℕ) → has (aimed_places given) (Stub n (suc at)) ≡ false
-  not_aimed n at =
-      not_among (aimed_places given) n at
+  not_targeted : (n at : ℕ) → has (targeted_places given) (Stub n (suc at)) ≡ false
+  not_targeted n at =
+      not_among (targeted_places given) n at
       (all_append IsNoReturn (entry_places given ++ filter_map (target_at given) (all_places given)) (needed_places given)
       (all_append IsNoReturn (entry_places given) (filter_map (target_at given) (all_places given))
       (all_map IsNoReturn (λ at. place_of (entry_place given at)) (range_with_len 0 (length given.wanted.entries)) (λ at. of_symbol (entry_place given at)))
@@ -281,7 +281,7 @@ module _ (given : Given) where
   first_starts [] p other e = absurd cc
   first_starts (q ∷ ps) p other e = refl
 
-  next_starts : (ended : Bool) (ps : List CodePlace) (k : ℕ) (p n : CodePlace) (other : Bool) → slice_get ps k ≡ Some p → slice_get ps (suc k) ≡ Some n → get_or (starts given ended ps) (suc k) other ≡ (ends_at (operation_at given p) || has (aimed_places given) n)
+  next_starts : (ended : Bool) (ps : List CodePlace) (k : ℕ) (p n : CodePlace) (other : Bool) → slice_get ps k ≡ Some p → slice_get ps (suc k) ≡ Some n → get_or (starts given ended ps) (suc k) other ≡ (ends_at (operation_at given p) || has (targeted_places given) n)
   next_starts ended [] k p n other e f = absurd cc
   next_starts ended (q ∷ []) zero p n other e f = absurd cc
   next_starts ended (q ∷ r ∷ ps) zero p n other e f = (let same : q ≡ p = cc in let next : r ≡ n = cc in rw (same, next) refl)
@@ -315,8 +315,8 @@ calls_begin_blocks given lifted h q number e = (begins q e here at_stub.1, goes_
     -- where an operation goes on, the next of the list is the place after it
     next : (k : ℕ) (r : CodePlace) (op : Operation CodePlace) → slice_get lifted.places k ≡ Some r → operation_at given r ≡ Some op → can_go_on op ≡ true → slice_get lifted.places (suc k) ≡ Some (next_place given r)
     next k r op f o can =
-        let onward : onward_of given r ≡ Some (next_place given r) = ap (next_of given r) o ∙ ap (λ b. where_true b (next_place given r)) can in
-        ap (λ l. slice_get l (suc k)) h.places_are ∙ next_listed given k r (next_place given r) (ap (λ l. slice_get l k) (sym h.places_are) ∙ f) onward
+        let successor : successor_of given r ≡ Some (next_place given r) = ap (next_of given r) o ∙ ap (λ b. where_true b (next_place given r)) can in
+        ap (λ l. slice_get l (suc k)) h.places_are ∙ next_listed given k r (next_place given r) (ap (λ l. slice_get l k) (sym h.places_are) ∙ f) successor
 
     goes_on : get_or lifted.begins (q + 1) true ≡ false
     goes_on =
@@ -324,11 +324,11 @@ calls_begin_blocks given lifted h q number e = (begins q e here at_stub.1, goes_
         let follows = next q p (HostCall number) here calls refl ∙ ap Some after in
         let mark = ap (λ bs. get_or bs (suc q) true) h.begins_are ∙ next_starts given true lifted.places q p (Stub at_stub.0 1) true here follows in
         let ended : ends_at (operation_at given p) ≡ false = ap ends_at calls in
-        rw add-one (mark ∙ ap (λ b. b || has (aimed_places given) (Stub at_stub.0 1)) ended ∙ not_aimed given at_stub.0 0)
+        rw add-one (mark ∙ ap (λ b. b || has (targeted_places given) (Stub at_stub.0 1)) ended ∙ not_targeted given at_stub.0 0)
 
     begins : (k : ℕ) → slice_get lifted.ops k ≡ Some (HostCall number) → slice_get lifted.places k ≡ Some p → p ≡ Stub at_stub.0 0 → get_or lifted.begins k false ≡ true
-    begins zero f stands is = ap (λ bs. get_or bs 0 false) h.begins_are ∙ first_starts given lifted.places p false stands
-    begins (suc k) f stands is =
+    begins zero f at_its_place is = ap (λ bs. get_or bs 0 false) h.begins_are ∙ first_starts given lifted.places p false at_its_place
+    begins (suc k) f at_its_place is =
         let within = slice_get_within lifted.ops (suc k) (HostCall number) f in
         let op = get_or lifted.ops k Sbrk in
         let before : slice_get lifted.ops k ≡ Some op = slice_get-get_or lifted.ops k Sbrk (omega (arith, within)) in
@@ -336,12 +336,12 @@ calls_begin_blocks given lifted h q number e = (begins q e here at_stub.1, goes_
         let there = listed k op before in
         let placed : Operation CodePlace = rename (place lifted.places) op in
         let is_op : operation_at given r ≡ Some placed = h.ops_are k op before in
-        let mark = ap (λ bs. get_or bs (suc k) false) h.begins_are ∙ next_starts given true lifted.places k r p false there stands in
-        mark ∙ by_end r placed is_op (λ can. none_before given r at_stub.0 (same_some (sym (next k r placed there is_op can) ∙ stands) ∙ is)) (ends_block placed) refl
+        let mark = ap (λ bs. get_or bs (suc k) false) h.begins_are ∙ next_starts given true lifted.places k r p false there at_its_place in
+        mark ∙ by_end r placed is_op (λ can. none_before given r at_stub.0 (same_some (sym (next k r placed there is_op can) ∙ at_its_place) ∙ is)) (ends_block placed) refl
       where
         same_some : {a b : CodePlace} → Some a ≡ Some b → a ≡ b
         same_some s = cc
 
-        by_end : (r : CodePlace) (placed : Operation CodePlace) → operation_at given r ≡ Some placed → (can_go_on placed ≡ true → ⊥) → (b : Bool) → ends_block placed ≡ b → (ends_at (operation_at given r) || has (aimed_places given) p) ≡ true
+        by_end : (r : CodePlace) (placed : Operation CodePlace) → operation_at given r ≡ Some placed → (can_go_on placed ≡ true → ⊥) → (b : Bool) → ends_block placed ≡ b → (ends_at (operation_at given r) || has (targeted_places given) p) ≡ true
         by_end r placed is_op wrong true ended = or_true_left _ _ (ap ends_at is_op ∙ ended)
         by_end r placed is_op wrong false ended = absurd (wrong (goes_on_unless given placed ended))

@@ -92,9 +92,9 @@ either_is : (b : Bool) (x y : Result RvOp WordFault) → IfOk x IsOp → IfOk y 
 either_is true x y f g = f
 either_is false x y f g = g
 
-standing_is_op : (bytes : List ℕ) (f : ℕ) → IfOk (word_or_trap bytes f) IsOp
+fetched_is_op : (bytes : List ℕ) (f : ℕ) → IfOk (word_or_trap bytes f) IsOp
 unfolding word_or_trap
-standing_is_op bytes f = either_is (nat_eq f (length bytes)) _ _ tt (either_is (nat_le (f + 4) (length bytes)) _ _ (operation_is_op (word_at bytes f)) tt)
+fetched_is_op bytes f = either_is (nat_eq f (length bytes)) _ _ tt (either_is (nat_le (f + 4) (length bytes)) _ _ (operation_is_op (word_at bytes f)) tt)
 
 result_is_op : (word : Result RvOp WordFault) → IfOk word IsOp → IfSome (decoded (Some word)) IsOp
 result_is_op (Ok op) h = h
@@ -105,7 +105,7 @@ word_is_op f None = tt
 word_is_op f (Some bytes) = by_offset (is_code_offset (length bytes) f)
   where
     by_offset : (b : Bool) → IfSome (decoded (if b then Some (word_or_trap bytes f) else None)) IsOp
-    by_offset true = result_is_op (word_or_trap bytes f) (standing_is_op bytes f)
+    by_offset true = result_is_op (word_or_trap bytes f) (fetched_is_op bytes f)
     by_offset false = tt
 
 -- registers and immediates of the operation at an offset are in range
@@ -117,10 +117,10 @@ some_op (Ok op) e = (op, refl)
 some_op (Err fault) e = absurd cc
 
 -- there is an operation at each place
-pub raw_stands : (given : Given) (o s f : ℕ) → IsFaultless given o s f → (op : RvOp) × (raw_at given (Code o s f) ≡ Some op)
-raw_stands given o s f free =
+pub raw_is_there : (given : Given) (o s f : ℕ) → IsFaultless given o s f → (op : RvOp) × (raw_at given (Code o s f) ≡ Some op)
+raw_is_there given o s f free =
     let here : word_in (code_at given o s) f ≡ Some (word_or_trap free.bytes f) = rw (free.code, free.offset) refl in
     let word = some_op (word_or_trap free.bytes f) (subst (λ w. word_fault w ≡ None) here free.word) in
     (word.0, ap decoded here ∙ word.1)
 
-pub ruleset words = (offset_small, raw_is_op, raw_stands)
+pub ruleset words = (offset_small, raw_is_op, raw_is_there)

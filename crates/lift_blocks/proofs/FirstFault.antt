@@ -25,7 +25,7 @@ use Rattle.relocs.specs.declared.fault.TheConstants.{INTO_PAIR}
 use Rattle.relocs.specs.Sites.{IsCodeSection}
 use Rattle.relocs.specs.CodeFaults.{fault_at, fault_at_offset, operation_codes, is_entry_at, entry_codes, codes_at, use_codes, word_fault, refusal_code}
 use Rattle.relocs.specs.Operands.{least, lesser}
-use Rattle.relocs.specs.Pairs.{stands_at, relocations_at, is_second, is_pair_at, is_none_of}
+use Rattle.relocs.specs.Pairs.{relocation_is_at, relocations_at, is_second, is_pair_at, is_none_of}
 use Rattle.relocs.specs.Places.{Code, code_at}
 use Rattle.relocs.specs.Words.{word_in, word_of_place, raw_at, decoded}
 use Rattle.relocs.proofs.Finding.{filter_next}
@@ -211,7 +211,7 @@ pub aligned_more :
     → AreAligned (take (n + 1) table) new
 aligned_more table n limit new r here before is = record { below = each }
   where
-    apart : (f : ℕ) → f < new → nat_eq (f % 4) 0 ≡ false → (b : Bool) → stands_at f r ≡ b → cond b (r ∷ []) [] ≡ []
+    apart : (f : ℕ) → f < new → nat_eq (f % 4) 0 ≡ false → (b : Bool) → relocation_is_at f r ≡ b → cond b (r ∷ []) [] ≡ []
     apart f lt e false g = refl
     apart f lt e true g =
         let both = both_true (has_effect r.kind) (nat_eq r.offset f) g in
@@ -220,11 +220,11 @@ aligned_more table n limit new r here before is = record { below = each }
         let at : unaligned_offset r ≡ r.offset = rw (both.0, odd) refl in
         absurd (omega (arith, lt, is, at, same))
 
-    each : (f : ℕ) → f < new → nat_eq (f % 4) 0 ≡ false → filter (stands_at f) (take (n + 1) table) ≡ []
+    each : (f : ℕ) → f < new → nat_eq (f % 4) 0 ≡ false → filter (relocation_is_at f) (take (n + 1) table) ≡ []
     each f lt e =
         let next : n + 1 ≡ suc n = omega arith in
         let earlier = before.below f (omega (arith, lt, is)) e in
-        rw next (filter_next (stands_at f) table n r here ∙ ap (λ l. l ++ cond (stands_at f r) (r ∷ []) []) earlier ∙ apart f lt e (stands_at f r) refl)
+        rw next (filter_next (relocation_is_at f) table n r here ∙ ap (λ l. l ++ cond (relocation_is_at f r) (r ∷ []) []) earlier ∙ apart f lt e (relocation_is_at f r) refl)
 
 -- those of a section of code are loaded
 loaded_none :

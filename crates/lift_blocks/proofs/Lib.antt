@@ -1,6 +1,6 @@
 pub mod Renamed
 pub mod Order
-pub mod Lock
+pub mod InLockstep
 pub mod Calls
 pub mod Bounds
 pub mod Walks
@@ -30,5 +30,5 @@ pub mod ListedOps
 pub mod EntrySites
 pub mod AllOperations
 pub mod PlainWords
-pub mod Onward
+pub mod Successor
 pub mod Relisted

@@ -16,7 +16,7 @@ use Rattle.lift_blocks.specs.declared.source_op.SourceOp.{SourceOp}
 use Rattle.lift_blocks.specs.Operations.{Operation, Plain, Branch, Jal, Jalr, Pair, HostCall, Sbrk, rename, operation_at}
 use Rattle.lift_blocks.specs.Fits.{FitsInstructions}
 use Rattle.lift_blocks.specs.Kept.{site_of, operation_of, IsInRange}
-use Rattle.lift_blocks.specs.Listed.{Lifted, IsLifted, aimed_places, onward_places, entry_places, target_in, target_at, target_of, is_end, is_emitted, code_places, ends_at, ends_block, starts, place, or_nowhere}
+use Rattle.lift_blocks.specs.Listed.{Lifted, IsLifted, targeted_places, successor_places, entry_places, target_in, target_at, target_of, is_end, is_emitted, code_places, ends_at, ends_block, starts, place, or_nowhere}
 use Rattle.lift_blocks.specs.Listing.{AreOperations, AreListed, IsNumberOf, AreNumbersOf, HasTargetIn, IsNumbered, AreNumbered, begins_from, at_places}
 use Rattle.lift_blocks.specs.Marks.{with_marks, chosen}
 use Rattle.lift_blocks.specs.Rank.{rank_of, Ascends}
@@ -130,43 +130,43 @@ needed_chosen given places needed are marked =
     sym (chosen_map site_of needed places) ∙ ap (chosen needed) are ∙ ap (λ bs. chosen bs (all_places given)) marked ∙ chosen_filter (has (named_places given)) (all_places given)
 
 -- entries, targets and needed places
-pub aimed_are : (given : Given) (ops : List (Operation CodePlace)) (entries needed : List CodePlace) → AreAt given (all_places given) ops → entries ≡ entry_places given → needed ≡ needed_places given
-    → entries ++ filter_map target_of ops ++ needed ≡ aimed_places given
-aimed_are given ops entries needed are entries_are needed_are =
+pub targeted_are : (given : Given) (ops : List (Operation CodePlace)) (entries needed : List CodePlace) → AreAt given (all_places given) ops → entries ≡ entry_places given → needed ≡ needed_places given
+    → entries ++ filter_map target_of ops ++ needed ≡ targeted_places given
+targeted_are given ops entries needed are entries_are needed_are =
     let targets = filter_map target_of ops in
     ap (λ l. l ++ targets ++ needed) entries_are ∙ ap (λ l. entry_places given ++ l ++ needed) (sym (targets_are given (all_places given) ops are))
     ∙ ap (λ l. entry_places given ++ filter_map (target_at given) (all_places given) ++ l) needed_are
 
 -- with the places that operations go on to
-pub reached_are : (given : Given) (marks new : List Bool) → marks ≡ map (has (aimed_places given)) (all_places given) → new ≡ with_marks (all_places given) marks (onward_places given) → new ≡ map (has (aimed_places given ++ onward_places given)) (all_places given)
-reached_are given marks new was is = is ∙ ap (λ m. with_marks (all_places given) m (onward_places given)) was ∙ has_these (all_places given) (aimed_places given) (onward_places given)
+pub reached_are : (given : Given) (marks new : List Bool) → marks ≡ map (has (targeted_places given)) (all_places given) → new ≡ with_marks (all_places given) marks (successor_places given) → new ≡ map (has (targeted_places given ++ successor_places given)) (all_places given)
+reached_are given marks new was is = is ∙ ap (λ m. with_marks (all_places given) m (successor_places given)) was ∙ has_these (all_places given) (targeted_places given) (successor_places given)
 
 -- the place with a number is listed
-pub emitted_more : (given : Given) (ps : List CodePlace) (reached now new : List Bool) (i : ℕ) (p : CodePlace) (end mark : Bool) → slice_get ps i ≡ Some p → reached ≡ map (has (aimed_places given ++ onward_places given)) ps
+pub emitted_more : (given : Given) (ps : List CodePlace) (reached now new : List Bool) (i : ℕ) (p : CodePlace) (end mark : Bool) → slice_get ps i ≡ Some p → reached ≡ map (has (targeted_places given ++ successor_places given)) ps
     → slice_get reached i ≡ Some mark → end ≡ is_end given p → now ≡ map (is_emitted given) (take i ps) → new ≡ now ++ (not end || mark) ∷ [] → new ≡ map (is_emitted given) (take (i + 1) ps)
 emitted_more given ps reached now new i p end mark e are marked ends was added =
-    let here : slice_get (map (has (aimed_places given ++ onward_places given)) ps) i ≡ Some (has (aimed_places given ++ onward_places given) p) = slice_get-map (has (aimed_places given ++ onward_places given)) ps i ∙ ap (option_map (has (aimed_places given ++ onward_places given))) e in
-    let both : Some mark ≡ Some (has (aimed_places given ++ onward_places given) p) = sym marked ∙ ap (λ l. slice_get l i) are ∙ here in
-    let mark_is : mark ≡ has (aimed_places given ++ onward_places given) p = cc in
-    let is : (not end || mark) ≡ is_emitted given p = rw (ends, mark_is) (ap (λ b. not (is_end given p) || b) (has_swap (aimed_places given) (onward_places given) p)) in
+    let here : slice_get (map (has (targeted_places given ++ successor_places given)) ps) i ≡ Some (has (targeted_places given ++ successor_places given) p) = slice_get-map (has (targeted_places given ++ successor_places given)) ps i ∙ ap (option_map (has (targeted_places given ++ successor_places given))) e in
+    let both : Some mark ≡ Some (has (targeted_places given ++ successor_places given) p) = sym marked ∙ ap (λ l. slice_get l i) are ∙ here in
+    let mark_is : mark ≡ has (targeted_places given ++ successor_places given) p = cc in
+    let is : (not end || mark) ≡ is_emitted given p = rw (ends, mark_is) (ap (λ b. not (is_end given p) || b) (has_swap (targeted_places given) (successor_places given) p)) in
     map_more (is_emitted given) ps i p now new (not end || mark) e was is added
 
 -- ---- blocks
 
 -- which operations begin a block, from an index on
-pub begins_step : (ended : Bool) (aimed : List Bool) (ops : List SourceOp) (i : ℕ) (d : SourceOp) → i < length ops → length aimed ≡ length ops
-    → begins_from ended (drop i aimed) (map operation_of (drop i ops)) ≡ (ended || get_or aimed i false) ∷ begins_from (ends_block (operation_of (get_or ops i d))) (drop (i + 1) aimed) (map operation_of (drop (i + 1) ops))
-begins_step ended aimed ops i d lt same =
-    let within : i < length aimed = omega (arith, lt, same) in
-    rw (add-one, drop-cons aimed i false within, drop-cons ops i d lt) refl
+pub begins_step : (ended : Bool) (targeted : List Bool) (ops : List SourceOp) (i : ℕ) (d : SourceOp) → i < length ops → length targeted ≡ length ops
+    → begins_from ended (drop i targeted) (map operation_of (drop i ops)) ≡ (ended || get_or targeted i false) ∷ begins_from (ends_block (operation_of (get_or ops i d))) (drop (i + 1) targeted) (map operation_of (drop (i + 1) ops))
+begins_step ended targeted ops i d lt same =
+    let within : i < length targeted = omega (arith, lt, same) in
+    rw (add-one, drop-cons targeted i false within, drop-cons ops i d lt) refl
 
 -- the same, with what the code finds there
-pub begins_more : (ended begins next : Bool) (aimed : List Bool) (ops : List SourceOp) (i : ℕ) (o : SourceOp) → slice_get ops i ≡ Some o → length aimed ≡ length ops → begins ≡ (ended || get_or aimed i false) → next ≡ ends_block (operation_of o)
-    → begins_from ended (drop i aimed) (map operation_of (drop i ops)) ≡ begins ∷ begins_from next (drop (i + 1) aimed) (map operation_of (drop (i + 1) ops))
-begins_more ended begins next aimed ops i o e same is after =
-    let more = drop (i + 1) aimed in
+pub begins_more : (ended begins next : Bool) (targeted : List Bool) (ops : List SourceOp) (i : ℕ) (o : SourceOp) → slice_get ops i ≡ Some o → length targeted ≡ length ops → begins ≡ (ended || get_or targeted i false) → next ≡ ends_block (operation_of o)
+    → begins_from ended (drop i targeted) (map operation_of (drop i ops)) ≡ begins ∷ begins_from next (drop (i + 1) targeted) (map operation_of (drop (i + 1) ops))
+begins_more ended begins next targeted ops i o e same is after =
+    let more = drop (i + 1) targeted in
     let rest = map operation_of (drop (i + 1) ops) in
-    begins_step ended aimed ops i o (slice_get_within ops i o e) same
+    begins_step ended targeted ops i o (slice_get_within ops i o e) same
     ∙ ap (λ b. b ∷ begins_from (ends_block (operation_of (get_or ops i o))) more rest) (sym is)
     ∙ ap (λ b. begins ∷ begins_from b more rest) (ap (λ x. ends_block (operation_of x)) (get_or_from_slice_get ops i o o e) ∙ sym after)
 
@@ -185,7 +185,7 @@ begins_renamed f ended [] ops = refl
 begins_renamed f ended (b ∷ bs) [] = refl
 begins_renamed f ended (b ∷ bs) (op ∷ ops) = rw (ends_renamed f op) (ap (λ l. (ended || b) ∷ l) (begins_renamed f (ends_block op) bs ops))
 
-starts_are : (given : Given) (ended : Bool) (ps : List CodePlace) (ops : List (Operation CodePlace)) → AreAt given ps ops → begins_from ended (map (has (aimed_places given)) ps) ops ≡ starts given ended ps
+starts_are : (given : Given) (ended : Bool) (ps : List CodePlace) (ops : List (Operation CodePlace)) → AreAt given ps ops → begins_from ended (map (has (targeted_places given)) ps) ops ≡ starts given ended ps
 starts_are given ended [] [] e = refl
 starts_are given ended [] (op ∷ ops) e = absurd cc
 starts_are given ended (p ∷ ps) [] e = absurd cc
@@ -305,7 +305,7 @@ all_at P (y ∷ xs) (suc i) x f e = all_at P xs i x f.1 e
 pub record IsList (given : Given) (emitted : List Bool) (ops : List (Operation CodePlace)) (lifted : Lifted) : Type 0 where
   pub places : lifted.places ≡ chosen emitted (all_places given)
   pub operations : AreNumbered lifted.places (chosen emitted ops) lifted.ops
-  pub begins : lifted.begins ≡ begins_from true (chosen emitted (map (has (aimed_places given)) (all_places given))) lifted.ops
+  pub begins : lifted.begins ≡ begins_from true (chosen emitted (map (has (targeted_places given)) (all_places given))) lifted.ops
   pub entries : AreNumbersOf lifted.places (entry_places given) lifted.entries
   pub needed : AreNumbersOf lifted.places (needed_places given) lifted.needed
   pub map_is : lifted.map ≡ needed_places given
@@ -331,8 +331,8 @@ is_lifted given emitted ops lifted marked are list =
           by_place given lifted.places out chosen_ops q (rename (place lifted.places) op) list.places same there;
       ops_fit = λ q op e. all_at FitsInstructions lifted.ops q op list.operations.fit e;
       targets_exist = λ q t op e f. all_at (HasTargetIn (length lifted.places)) lifted.ops q op list.operations.targets e t f;
-      begins_are = list.begins ∙ sym (begins_renamed (place lifted.places) true (chosen emitted (map (has (aimed_places given)) ps)) lifted.ops) ∙ ap (begins_from true (chosen emitted (map (has (aimed_places given)) ps))) list.operations.are
-          ∙ ap (λ l. begins_from true l chosen_ops) (chosen_map (has (aimed_places given)) emitted ps) ∙ starts_are given true out chosen_ops same ∙ sym (ap (starts given true) list.places);
+      begins_are = list.begins ∙ sym (begins_renamed (place lifted.places) true (chosen emitted (map (has (targeted_places given)) ps)) lifted.ops) ∙ ap (begins_from true (chosen emitted (map (has (targeted_places given)) ps))) list.operations.are
+          ∙ ap (λ l. begins_from true l chosen_ops) (chosen_map (has (targeted_places given)) emitted ps) ∙ starts_are given true out chosen_ops same ∙ sym (ap (starts given true) list.places);
       map_is = list.map_is;
       imports_are = list.imports_are;
       entries_are = list.entries.are;
@@ -379,18 +379,18 @@ numbers_len places these numbers are = sym (length-map numbers (place places)) �
 
 -- the list of these parts
 pub is_list :
-    (given : Given) (places listed needed : List Site) (ops : List (Operation CodePlace)) (emitted aimed named : List Bool) (entries : List CodePlace) (lifted : Lifted)
+    (given : Given) (places listed needed : List Site) (ops : List (Operation CodePlace)) (emitted targeted named : List Bool) (entries : List CodePlace) (lifted : Lifted)
     → map site_of places ≡ all_places given → emitted ≡ map (is_emitted given) (all_places given) → AreAt given (all_places given) ops
-    → named ≡ map (has (named_places given)) (all_places given) → aimed ≡ chosen emitted (map (has (aimed_places given)) (all_places given)) → entries ≡ entry_places given
+    → named ≡ map (has (named_places given)) (all_places given) → targeted ≡ chosen emitted (map (has (targeted_places given)) (all_places given)) → entries ≡ entry_places given
     → listed ≡ chosen emitted places → needed ≡ chosen named places
-    → lifted.places ≡ map site_of listed → AreNumbered (map site_of listed) (chosen emitted ops) lifted.ops → lifted.begins ≡ begins_from true aimed lifted.ops
+    → lifted.places ≡ map site_of listed → AreNumbered (map site_of listed) (chosen emitted ops) lifted.ops → lifted.begins ≡ begins_from true targeted lifted.ops
     → AreNumbersOf (map site_of listed) entries lifted.entries → AreNumbersOf (map site_of listed) (map site_of needed) lifted.needed
     → lifted.map ≡ needed_places given → lifted.imports ≡ length given.wanted.imports → IsLifted given lifted
-is_list given places listed needed ops emitted aimed named entries lifted all marked are named_are aimed_are_these entries_are listed_are needed_are places_are numbered begins_are entry_numbers needed_numbers map_is imports_are =
+is_list given places listed needed ops emitted targeted named entries lifted all marked are named_are targeted_are_these entries_are listed_are needed_are places_are numbered begins_are entry_numbers needed_numbers map_is imports_are =
     is_lifted given emitted ops lifted marked are (record {
       places = places_are ∙ ap (map site_of) listed_are ∙ sym (chosen_map site_of emitted places) ∙ ap (chosen emitted) all;
       operations = subst (λ q. AreNumbered q (chosen emitted ops) lifted.ops) (sym places_are) numbered;
-      begins = begins_are ∙ ap (λ a. begins_from true a lifted.ops) aimed_are_these;
+      begins = begins_are ∙ ap (λ a. begins_from true a lifted.ops) targeted_are_these;
       entries = subst (λ q. AreNumbersOf q (entry_places given) lifted.entries) (sym places_are) (subst (λ t. AreNumbersOf (map site_of listed) t lifted.entries) entries_are entry_numbers);
       needed = subst (λ q. AreNumbersOf q (needed_places given) lifted.needed) (sym places_are)
           (subst (λ t. AreNumbersOf (map site_of listed) t lifted.needed) (ap (map site_of) needed_are ∙ needed_chosen given places named all named_are) needed_numbers);
@@ -400,7 +400,7 @@ is_list given places listed needed ops emitted aimed named entries lifted all ma
 
 -- there are as many marks as operations that are listed
 pub marks_count : (given : Given) (places : List CodePlace) (emitted : List Bool) (ops : List (Operation CodePlace)) (found : List SourceOp) → AreAt given (all_places given) ops → AreNumbered places (chosen emitted ops) (map operation_of found)
-    → length (chosen emitted (map (has (aimed_places given)) (all_places given))) ≡ length found
+    → length (chosen emitted (map (has (targeted_places given)) (all_places given))) ≡ length found
 marks_count given places emitted ops found are numbered =
-    length_chosen emitted (map (has (aimed_places given)) (all_places given)) ops (length-map (all_places given) (has (aimed_places given)) ∙ count given (all_places given) ops are)
+    length_chosen emitted (map (has (targeted_places given)) (all_places given)) ops (length-map (all_places given) (has (targeted_places given)) ∙ count given (all_places given) ops are)
     ∙ sym (ap length numbered.are) ∙ length-map (map operation_of found) (rename (place places)) ∙ length-map found operation_of

@@ -18,7 +18,7 @@ use Rattle.relocs.specs.Words.{word_or_trap, raw_at, decoded, is_code_offset}
 use Rattle.relocs.specs.Pairs.{is_pair_at, is_second, is_import, is_absent, named_by, import_stub, trap_stub, trap_stubs, stub_places, all_places, next_place}
 use Rattle.relocs.specs.AddressMap.{needed_places}
 use Rattle.lift_blocks.specs.Operations.{Operation, Plain, placed_op, pair_op, target_from, target_or, operand_at, stub_op, operation_in}
-use Rattle.lift_blocks.specs.Listed.{can_go_on, next_of, onward_of, onward_places, aimed_places, is_emitted, code_places}
+use Rattle.lift_blocks.specs.Listed.{can_go_on, next_of, successor_of, successor_places, targeted_places, is_emitted, code_places}
 
 same_self : (n : ℕ) → nat_eq n n ≡ true
 same_self n = eq-eqb n n refl
@@ -137,7 +137,7 @@ record GoesToNext (given : Given) (o s f : ℕ) (n : CodePlace) : Type 0 where
   word : word_goes_on (raw_at given (Code o s f)) ≡ true
   next : Code o s (f + 4) ≡ n
 
-goes_to_next : (given : Given) (o s f : ℕ) (n : CodePlace) → onward_of given (Code o s f) ≡ Some n → GoesToNext given o s f n
+goes_to_next : (given : Given) (o s f : ℕ) (n : CodePlace) → successor_of given (Code o s f) ≡ Some n → GoesToNext given o s f n
 unfolding operation_in
 goes_to_next given o s f n e = by_pair (is_pair_at given o s f) refl e
   where
@@ -159,7 +159,7 @@ module _ (given : Given) where
   -- where an operation goes on, the next of the list is the place after it
   abbrev pub Follows : List CodePlace → Type 0
   Follows [] = Unit {0}
-  Follows (p ∷ ps) = ((n : CodePlace) → onward_of given p ≡ Some n → slice_get ps 0 ≡ Some n) × Follows ps
+  Follows (p ∷ ps) = ((n : CodePlace) → successor_of given p ≡ Some n → slice_get ps 0 ≡ Some n) × Follows ps
 
   first_append : (a b : List CodePlace) (n : CodePlace) → slice_get a 0 ≡ Some n → slice_get (a ++ b) 0 ≡ Some n
   first_append [] b n e = absurd cc
@@ -179,9 +179,9 @@ module _ (given : Given) where
   stops false b x y e = rw e refl
 
   -- at the last place of a section nothing goes on: there is the end's trap, or too few bytes
-  last_stands : (bytes : List ℕ) (f : ℕ) → length bytes < f + 4 → word_goes_on (decoded (Some (word_or_trap bytes f))) ≡ false
+  last_is_there : (bytes : List ℕ) (f : ℕ) → length bytes < f + 4 → word_goes_on (decoded (Some (word_or_trap bytes f))) ≡ false
   unfolding word_or_trap
-  last_stands bytes f few = stops (nat_eq f (length bytes)) (nat_le (f + 4) (length bytes)) _ _ (lt-leb (f + 4) (length bytes) few)
+  last_is_there bytes f few = stops (nat_eq f (length bytes)) (nat_le (f + 4) (length bytes)) _ _ (lt-leb (f + 4) (length bytes) few)
 
   stops_if : (a : Bool) (x : Result RvOp _) → word_goes_on (decoded (Some x)) ≡ false → word_goes_on (decoded (if a then Some x else None)) ≡ false
   stops_if true x e = e
@@ -191,7 +191,7 @@ module _ (given : Given) where
   in_section o s f zero bytes c e = tt
   in_section o s f (suc zero) bytes c e =
       let few : length bytes < f + 4 = omega arith in
-      let none : word_goes_on (raw_at given (Code o s f)) ≡ false = rw c (stops_if (is_code_offset (length bytes) f) (word_or_trap bytes f) (last_stands bytes f few)) in
+      let none : word_goes_on (raw_at given (Code o s f)) ≡ false = rw c (stops_if (is_code_offset (length bytes) f) (word_or_trap bytes f) (last_is_there bytes f few)) in
       (λ n h. (let g = goes_to_next given o s f n h in let wrong : true ≡ false = sym g.word ∙ none in absurd cc), tt)
   in_section o s f (suc (suc count)) bytes c e =
       (λ n h. ap Some (goes_to_next given o s f n h).next, in_section o s (f + 4) (suc count) bytes c (omega arith))
@@ -212,7 +212,7 @@ module _ (given : Given) where
       rw (same, t) refl
 
   -- the same of those that pass a test, where all that is gone on to pass it
-  filter_keeps : (test : CodePlace → Bool) → ((p n : CodePlace) → onward_of given p ≡ Some n → test n ≡ true) → (xs : List CodePlace) → Follows xs → Follows (filter test xs)
+  filter_keeps : (test : CodePlace → Bool) → ((p n : CodePlace) → successor_of given p ≡ Some n → test n ≡ true) → (xs : List CodePlace) → Follows xs → Follows (filter test xs)
   filter_keeps test passes [] f = tt
   filter_keeps test passes (x ∷ xs) f = by_test (filter_keeps test passes xs f.1) (test x)
     where
@@ -221,7 +221,7 @@ module _ (given : Given) where
       by_test rest false = rest
 
   -- the place that an operation goes on to is no second word
-  no_second : (p n : CodePlace) → onward_of given p ≡ Some n → not (is_second given n) ≡ true
+  no_second : (p n : CodePlace) → successor_of given p ≡ Some n → not (is_second given n) ≡ true
   no_second (Code o s f) n h =
       let g = goes_to_next given o s f n h in
       let back : f + 4 - 4 ≡ f = omega arith in
@@ -273,7 +273,7 @@ module _ (given : Given) where
       (follows_each (length given.wanted.imports) (import_stub given) stub_follows) trap_follows)
 
   -- the same of those that pass a test
-  filter_follows : (test : CodePlace → Bool) (xs : List CodePlace) → Follows xs → (q : ℕ) (p n : CodePlace) → slice_get (filter test xs) q ≡ Some p → onward_of given p ≡ Some n → test n ≡ true → slice_get (filter test xs) (suc q) ≡ Some n
+  filter_follows : (test : CodePlace → Bool) (xs : List CodePlace) → Follows xs → (q : ℕ) (p n : CodePlace) → slice_get (filter test xs) q ≡ Some p → successor_of given p ≡ Some n → test n ≡ true → slice_get (filter test xs) (suc q) ≡ Some n
   filter_follows test [] f q p n e h t = absurd cc
   filter_follows test (x ∷ xs) f q p n e h t = by_test (λ k e1. filter_follows test xs f.1 k p n e1 h t) (test x) q e
     where
@@ -285,11 +285,11 @@ module _ (given : Given) where
       by_test more false q e = more q e
 
   -- the place that an operation goes on to is listed after it
-  pub next_listed : (q : ℕ) (p n : CodePlace) → slice_get (code_places given) q ≡ Some p → onward_of given p ≡ Some n → slice_get (code_places given) (suc q) ≡ Some n
+  pub next_listed : (q : ℕ) (p n : CodePlace) → slice_get (code_places given) q ≡ Some p → successor_of given p ≡ Some n → slice_get (code_places given) (suc q) ≡ Some n
   unfolding code_places
   next_listed q p n e h =
       let there = filter_member (is_emitted given) (all_places given) q p e in
-      let among : has (onward_places given) n ≡ true = has_given (onward_of given) (all_places given) there.0 p n there.1 h in
-      let among' = any_front (same_place n) (onward_places given) (aimed_places given) among in
+      let among : has (successor_places given) n ≡ true = has_given (successor_of given) (all_places given) there.0 p n there.1 h in
+      let among' = any_front (same_place n) (successor_places given) (targeted_places given) among in
       let emitted : is_emitted given n ≡ true = rw among' (or_true _) in
       filter_follows (is_emitted given) (all_places given) all_follow q p n e h emitted

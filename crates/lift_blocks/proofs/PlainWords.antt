@@ -18,7 +18,7 @@ use Rattle.rv_decode.specs.declared.ops.WordFault.{WordFault}
 use Rattle.relocs.specs.CodeFaults.{fault_at, fault_at_offset, operation_codes, is_entry_at, entry_codes, codes_at, use_codes, word_fault}
 use Rattle.relocs.specs.Operands.{least, listed}
 use Rattle.relocs.specs.ByOffset.{is_at, IsRow}
-use Rattle.relocs.specs.Pairs.{stands_at, relocations_at, is_second, is_pair_at, joins}
+use Rattle.relocs.specs.Pairs.{relocation_is_at, relocations_at, is_second, is_pair_at, joins}
 use Rattle.relocs.specs.Places.{Code}
 use Rattle.relocs.specs.Sites.{IsCodeSection}
 use Rattle.relocs.specs.Words.{word_of_place, raw_at, decoded}
@@ -131,6 +131,6 @@ none_below f (suc n) m le e =
 pub aligned_table : (table row : List Relocation) (limit : ℕ) → IsRow table row → AreAligned row limit → AreAligned table limit
 aligned_table table row limit is aligned = record {
   below = λ f lt odd.
-      sym (filter_again (stands_at f) table) ∙ ap (filter (stands_at f)) (sym (is.each f)) ∙ filters_commute (stands_at f) (is_at f) row
+      sym (filter_again (relocation_is_at f) table) ∙ ap (filter (relocation_is_at f)) (sym (is.each f)) ∙ filters_commute (relocation_is_at f) (is_at f) row
       ∙ ap (filter (is_at f)) (aligned.below f lt odd);
 }

@@ -17,7 +17,7 @@ use Rattle.relocs.specs.Kinds.{kind_of}
 use Rattle.relocs.specs.Places.{Code}
 use Rattle.relocs.specs.Words.{raw_at}
 use Rattle.relocs.specs.Values.{high, low, is_high_low}
-use Rattle.relocs.specs.Pairs.{stands_at, relocations_at, is_second}
+use Rattle.relocs.specs.Pairs.{relocation_is_at, relocations_at, is_second}
 use Rattle.relocs.specs.Operands.{is_allowed, changes, meets, meaning_fault, plain_fault, label_fault, relocation_fault, crowd_fault, codes_by, listed, least}
 use Rattle.relocs.specs.CodeFaults.{operation_codes, use_codes, refusal_code}
 use Rattle.lift_blocks.specs.PlacedOps.{IsFaultless}
@@ -51,7 +51,7 @@ filter_passes {A} test (y ∷ xs) i x e = by_test (λ k. filter_passes test xs k
 pub record IsLone (given : Given) (o s f : ℕ) (r : Relocation) : Type 0 where
   pub lone : relocations_at given o s f ≡ r ∷ []
   pub at : ℕ
-  pub stands : slice_get (loaded_relocations given o s) at ≡ Some r
+  pub at_its_place : slice_get (loaded_relocations given o s) at ≡ Some r
   pub effect : has_effect r.kind ≡ true
   pub here : r.offset ≡ f
   pub no_fault : relocation_fault given o s r ≡ None
@@ -68,12 +68,12 @@ lone given o s f r free first =
     let few = where_false (nat_lt 1 (length rs)) WRONG_RELOCATION (listed_none (crowd_fault rs) (none-left (listed (crowd_fault rs)) (filter_map (relocation_fault given o s) rs) codes)) in
     let only = one_alone rs r first few in
     let faults = subst (λ l. filter_map (relocation_fault given o s) l ≡ []) only (none-right (listed (crowd_fault rs)) (filter_map (relocation_fault given o s) rs) codes) in
-    let there = filter_member (stands_at f) (loaded_relocations given o s) 0 r first in
-    let passes = filter_passes (stands_at f) (loaded_relocations given o s) 0 r first in
+    let there = filter_member (relocation_is_at f) (loaded_relocations given o s) 0 r first in
+    let passes = filter_passes (relocation_is_at f) (loaded_relocations given o s) 0 r first in
     record {
       lone = only;
       at = there.0;
-      stands = there.1;
+      at_its_place = there.1;
       effect = and_left (has_effect r.kind) (nat_eq r.offset f) passes;
       here = eqb-true r.offset f (and_right (has_effect r.kind) (nat_eq r.offset f) passes);
       no_fault = first_none (relocation_fault given o s r) [] faults;

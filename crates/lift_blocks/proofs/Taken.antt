@@ -85,13 +85,13 @@ module _ (given : Given) (o s : ℕ) (r : Relocation) where
   value_fits Distance e = tt
   value_fits Other e = tt
 
-  pub target_stands : (place : Place) → target_fault given place r.addend ≡ None → can_be_target (target_place place r.addend) ≡ true
-  target_stands (names.Code o s f) e = refl
-  target_stands (names.Bytes o s f) e = absurd cc
-  target_stands names.Unloaded e = absurd cc
-  target_stands (names.Import i) e = refl
-  target_stands (names.Number n) e = absurd cc
-  target_stands names.Absent e = refl
+  pub target_is_there : (place : Place) → target_fault given place r.addend ≡ None → can_be_target (target_place place r.addend) ≡ true
+  target_is_there (names.Code o s f) e = refl
+  target_is_there (names.Bytes o s f) e = absurd cc
+  target_is_there names.Unloaded e = absurd cc
+  target_is_there (names.Import i) e = refl
+  target_is_there (names.Number n) e = absurd cc
+  target_is_there names.Absent e = refl
 
   low_by : (h : Option Relocation) → HasBits 12 (low_by_high given o h)
   low_by None = tt
@@ -130,8 +130,8 @@ nothing_taken (rv.OpImm op rd rs1 imm) = tt
 nothing_taken op = tt
 
 takes_by : (given : Given) (o s : ℕ) (r : Relocation) → layout_faults given ≡ [] → (k : Kind) (op : RvOp) → may_change k op ≡ true → meaning_fault k given o r ≡ None → CanTake op (operand_by k given o s r)
-takes_by given o s r placed Branch op e m = branch_takes op _ e (target_stands given o s r (symbol_place given o r) m)
-takes_by given o s r placed Jal op e m = jal_takes op _ e (target_stands given o s r (symbol_place given o r) m)
+takes_by given o s r placed Branch op e m = branch_takes op _ e (target_is_there given o s r (symbol_place given o r) m)
+takes_by given o s r placed Jal op e m = jal_takes op _ e (target_is_there given o s r (symbol_place given o r) m)
 takes_by given o s r placed Call op e m = auipc_takes op _ e tt
 takes_by given o s r placed GotHigh op e m = auipc_takes op _ e (small_fits (slot_or_zero given (symbol_place given o r)) (slot_small given (symbol_place given o r) placed))
 takes_by given o s r placed PcHigh op e m = auipc_takes op _ e (value_fits given o s r PcHigh m)

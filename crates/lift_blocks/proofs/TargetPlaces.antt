@@ -85,17 +85,17 @@ module _ (given : Given) where
   named : (test : Relocation → Bool) (pick : Place → Bool) (o s f : ℕ) (r : Relocation) → IsFaultless given o s f → IsLone given o s f r → test r ≡ true → pick (symbol_place given o r) ≡ true → list_any pick (named_by test given) ≡ true
   named test pick o s f r free only passes picked =
       let here : named_if test given o r ≡ Some (symbol_place given o r) = rw passes refl in
-      let section = any_given pick (named_if test given o) (loaded_relocations given o s) only.at r (symbol_place given o r) only.stands here picked in
+      let section = any_given pick (named_if test given o) (loaded_relocations given o s) only.at r (symbol_place given o r) only.at_its_place here picked in
       any_among pick (length (kept_objects given)) o (λ o. each_below (length (object_at (kept_objects given) o).sections) (named_in test given o)) free.section.0.object_in
       (any_among pick (length (object_at (kept_objects given) o).sections) s (named_in test given o) free.section.0.section_in section)
 
-  stub_stands : (i : ℕ) (b : Bool) → b ≡ true → list_any (same_place (Stub i 0)) (if b then Stub i 0 ∷ Stub i 1 ∷ [] else []) ≡ true
-  stub_stands i true e = or_left (same_place (Stub i 0) (Stub i 0)) _ (place_self (Stub i 0))
-  stub_stands i false e = absurd cc
+  stub_is_there : (i : ℕ) (b : Bool) → b ≡ true → list_any (same_place (Stub i 0)) (if b then Stub i 0 ∷ Stub i 1 ∷ [] else []) ≡ true
+  stub_is_there i true e = or_left (same_place (Stub i 0) (Stub i 0)) _ (place_self (Stub i 0))
+  stub_is_there i false e = absurd cc
 
-  trap_stands : (p : CodePlace) (b : Bool) → b ≡ true → list_any (same_place p) (if b then p ∷ [] else []) ≡ true
-  trap_stands p true e = or_left (same_place p p) _ (place_self p)
-  trap_stands p false e = absurd cc
+  trap_is_there : (p : CodePlace) (b : Bool) → b ≡ true → list_any (same_place p) (if b then p ∷ [] else []) ≡ true
+  trap_is_there p true e = or_left (same_place p p) _ (place_self p)
+  trap_is_there p false e = absurd cc
 
   same_import : (i : ℕ) → is_import i (names.Import i) ≡ true
   same_import i = grind arith
@@ -106,7 +106,7 @@ module _ (given : Given) where
       let test : CodePlace → Bool = same_place (Stub i 0) in
       any_right test (filter (λ p. not (is_second given p)) (code_offsets given)) (stub_places given)
       (any_left test (each_below (length given.wanted.imports) (import_stub given)) (trap_stubs given)
-      (any_among test (length given.wanted.imports) i (import_stub given) lt (stub_stands i (list_any (is_import i) (named_by (λ r. has_effect r.kind) given)) e)))
+      (any_among test (length given.wanted.imports) i (import_stub given) lt (stub_is_there i (list_any (is_import i) (named_by (λ r. has_effect r.kind) given)) e)))
 
   trap_is_place : list_any is_absent (named_by names_target given) ≡ true → is_place given (trap_stub given) ≡ true
   unfolding all_places
@@ -114,7 +114,7 @@ module _ (given : Given) where
       let test : CodePlace → Bool = same_place (trap_stub given) in
       any_right test (filter (λ p. not (is_second given p)) (code_offsets given)) (stub_places given)
       (any_right test (each_below (length given.wanted.imports) (import_stub given)) (trap_stubs given)
-      (trap_stands (trap_stub given) (list_any is_absent (named_by names_target given)) e))
+      (trap_is_there (trap_stub given) (list_any is_absent (named_by names_target given)) e))
 
   place_there : (code : ℕ) (p : CodePlace) → place_fault given code p ≡ None → is_place given p ≡ true
   place_there code p e = by_place (is_place given p) e

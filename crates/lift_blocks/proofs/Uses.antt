@@ -40,11 +40,11 @@ fold_none f a at = refl
 some_next : {A C : Type 0} (h : A → Option C) (xs : List A) (i : ℕ) (x : A) → slice_get xs i ≡ Some x → filter_map h (take (suc i) xs) ≡ filter_map h (take i xs) ++ cons_option (h x) []
 some_next {C = C} h [] i x e = absurd cc
 some_next {C = C} h (y ∷ xs) zero x e = (let same : y ≡ x = cc in rw same refl)
-some_next {C = C} h (y ∷ xs) (suc i) x e = behind (h y) _ _ (some_next h xs i x e)
+some_next {C = C} h (y ∷ xs) (suc i) x e = after (h y) _ _ (some_next h xs i x e)
   where
-    behind : (o : Option C) (more before : List C) → more ≡ before ++ cons_option (h x) [] → cons_option o more ≡ cons_option o before ++ cons_option (h x) []
-    behind None more before e = e
-    behind (Some z) more before e = ap (λ l. z ∷ l) e
+    after : (o : Option C) (more before : List C) → more ≡ before ++ cons_option (h x) [] → cons_option o more ≡ cons_option o before ++ cons_option (h x) []
+    after None more before e = e
+    after (Some z) more before e = ap (λ l. z ∷ l) e
 
 -- with what the next of a list gives
 pub fold_some :
@@ -94,6 +94,6 @@ pub address_more :
     → new ≡ with_marks places old (filter_map (address_named given o) (take (i + 1) (relocations_of (object_at given.objects o) s)))
 address_more places given resolved o s i object r place old now new is_resolved there here symbol named was added =
     let the_object : object_at given.objects o ≡ object = ap (λ x. unwrap_or x no_object) there in
-    let stands = place_is given resolved o object r place is_resolved there symbol named in
+    let at_its_place = place_is given resolved o object r place is_resolved there symbol named in
     fold_some (with_mark places) old (address_named given o) (relocations_of (object_at given.objects o) s) i r now new (ap (λ x. slice_get (relocations_of x s) i) the_object ∙ here) was
-    (added ∙ ap (λ p. with_marks places now (cons_option (where_true (names_address r) (place_at p r.addend)) [])) stands)
+    (added ∙ ap (λ p. with_marks places now (cons_option (where_true (names_address r) (place_at p r.addend)) [])) at_its_place)

@@ -13,7 +13,7 @@ use Rattle.symbols.specs.Wanted.{Given}
 use Rattle.layout.specs.Slots.{is_among}
 use Rattle.relocs.specs.CodeFaults.{is_entry_at}
 use Rattle.relocs.specs.ByOffset.{AreTables}
-use Rattle.relocs.specs.Pairs.{stands_at, relocations_at, is_none_of}
+use Rattle.relocs.specs.Pairs.{relocation_is_at, relocations_at, is_none_of}
 use Rattle.relocs.specs.Places.{Code}
 use Rattle.relocs.specs.Sources.{IsSourcesOf}
 use Rattle.relocs.specs.Words.{raw_at}
@@ -37,7 +37,7 @@ unaligned_offset r = if has_effect r.kind && not (nat_eq (r.offset % 4) 0) then 
 
 -- below a limit, what changes something is at multiples of four
 pub record AreAligned (relocations : List Relocation) (limit : ℕ) : Type 0 where
-  pub below : (offset : ℕ) → offset < limit → nat_eq (offset % 4) 0 ≡ false → filter (stands_at offset) relocations ≡ []
+  pub below : (offset : ℕ) → offset < limit → nat_eq (offset % 4) 0 ≡ false → filter (relocation_is_at offset) relocations ≡ []
 
 -- an operation without a target that is no auipc, or no operation
 abbrev pub is_complete : Option RvOp → Bool

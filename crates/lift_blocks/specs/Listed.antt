@@ -59,12 +59,12 @@ abbrev pub next_of : Given → CodePlace → Option (Operation CodePlace) → Op
 next_of given p None = None
 next_of given p (Some op) = where_true (can_go_on op) (next_place given p)
 
-abbrev pub onward_of : Given → CodePlace → Option CodePlace
-onward_of given p = next_of given p (operation_at given p)
+abbrev pub successor_of : Given → CodePlace → Option CodePlace
+successor_of given p = next_of given p (operation_at given p)
 
 -- the places that the operation before can go on to
-abbrev pub onward_places : Given → List CodePlace
-onward_places given = filter_map (onward_of given) (all_places given)
+abbrev pub successor_places : Given → List CodePlace
+successor_places given = filter_map (successor_of given) (all_places given)
 
 -- the target of the operation at a place
 abbrev pub target_in : Option (Operation CodePlace) → Option CodePlace
@@ -75,8 +75,8 @@ abbrev pub target_at : Given → CodePlace → Option CodePlace
 target_at given p = target_in (operation_at given p)
 
 -- the places that always begin a block: entries, targets and needed places
-abbrev pub aimed_places : Given → List CodePlace
-aimed_places given = entry_places given ++ filter_map (target_at given) (all_places given) ++ needed_places given
+abbrev pub targeted_places : Given → List CodePlace
+targeted_places given = entry_places given ++ filter_map (target_at given) (all_places given) ++ needed_places given
 
 abbrev pub is_size : ℕ → Option (List ℕ) → Bool
 is_size offset None = false
@@ -90,7 +90,7 @@ is_end given Nowhere = false
 
 -- The end of a section has an operation, a trap, only where something leads to it.
 abbrev pub is_emitted : Given → CodePlace → Bool
-is_emitted given p = not (is_end given p) || has (onward_places given ++ aimed_places given) p
+is_emitted given p = not (is_end given p) || has (successor_places given ++ targeted_places given) p
 
 -- the places of the operations in code order
 unfoldable pub code_places : Given → List CodePlace
@@ -104,7 +104,7 @@ ends_at (Some op) = ends_block op
 -- which of these begin a block, where one ends before the first or doesn't
 abbrev pub starts : Given → Bool → List CodePlace → List Bool
 starts given ended [] = []
-starts given ended (p ∷ ps) = (ended || has (aimed_places given) p) ∷ starts given (ends_at (operation_at given p)) ps
+starts given ended (p ∷ ps) = (ended || has (targeted_places given) p) ∷ starts given (ends_at (operation_at given p)) ps
 
 abbrev pub or_nowhere : Option CodePlace → CodePlace
 or_nowhere None = Nowhere

@@ -14,7 +14,7 @@ use Rattle.rv_decode.specs.declared.ops.RvOp.TheVariants as rv
 use Rattle.runs.specs.Turn.{Turn}
 use Rattle.runs.specs.Machine.{Outcome, Next, Jump, Call, Ends, At}
 use Rattle.runs.specs.Numbers.{jump_by}
-use Rattle.runs.specs.Laid.{Fetched, step_at}
+use Rattle.runs.specs.Lockstep.{Fetched, step_at}
 use Rattle.runs.specs.World.{World, in_world}
 use Rattle.machine_state.specs.State.{State, register, with_register}
 use Rattle.machine_state.specs.Ends.{Event, End, Host, halt, panic, rules}
@@ -86,13 +86,13 @@ op_does table (Pair temp rd link target) s = Jump target (with_value (with_value
 op_does table (HostCall number) s = Call number s
 op_does table Sbrk s = Next (sbrk s 7 (register s 7))
 
-abbrev pub behind : Given → CodePlace → Option (Operation CodePlace) → Option (Fetched (Operation CodePlace) CodePlace)
-behind given p None = None
-behind given p (Some op) = Some (record { instr = op; next = next_place given p })
+abbrev pub after : Given → CodePlace → Option (Operation CodePlace) → Option (Fetched (Operation CodePlace) CodePlace)
+after given p None = None
+after given p (Some op) = Some (record { instr = op; next = next_place given p })
 
 -- the operation at a place, and the place after it
 abbrev pub fetch_op : Given → CodePlace → Option (Fetched (Operation CodePlace) CodePlace)
-fetch_op given p = behind given p (operation_at given p)
+fetch_op given p = after given p (operation_at given p)
 
 -- one step of the objects, with the host's answer where they call the host
 abbrev pub source_step : {Held : Type 0} → Host Held → Given → At CodePlace (World State Held) → Turn (At CodePlace (World State Held)) Event End

@@ -4,7 +4,7 @@
 //! same by their places do is a law.
 #![tactic(auto)]
 
-ghost use Rattle.lift_blocks.specs.Laws.{SourceLock, BoundsStay, CallsBeginBlocks, LiftedIsOne};
+ghost use Rattle.lift_blocks.specs.Laws.{SourceLockstep, BoundsStay, CallsBeginBlocks, LiftedIsOne};
 
 mod entries;
 mod fault;
@@ -33,8 +33,8 @@ pub use lifting::lift;
 pub use source_op::SourceOp;
 
 /// The operations of a program in code order run as the same by their places do.
-pub fn source_lock()
-    ensures { SourceLock }
+pub fn source_lockstep()
+    ensures { SourceLockstep }
 {}
 
 /// No operation changes how far the heap may grow, or how many pages the memory may have.

@@ -10,7 +10,7 @@ ghost use Rattle.relocs.specs.Places.{has};
 ghost use Rattle.relocs.specs.Pairs.{all_places, is_pair, next_place as the_next_place};
 ghost use Rattle.lift_blocks.specs.Kept.{site_of, operation_of};
 ghost use Rattle.lift_blocks.specs.Known.{AreAll, IsKnown};
-ghost use Rattle.lift_blocks.specs.Listed.{aimed_places, onward_places, entry_places, can_go_on as may_go_on, ends_block as does_end, target_of as the_target, is_emitted, is_end as is_the_end, IsLifted, onward_of};
+ghost use Rattle.lift_blocks.specs.Listed.{targeted_places, successor_places, entry_places, can_go_on as may_go_on, ends_block as does_end, target_of as the_target, is_emitted, is_end as is_the_end, IsLifted, successor_of};
 ghost use Rattle.lift_blocks.specs.Listing.{AreOperations, HaveTargetsIn, at_places, begins_from};
 ghost use Rattle.lift_blocks.specs.Marks.{with_marks};
 ghost use Rattle.lift_blocks.specs.Rank.{Ascends};
@@ -68,12 +68,12 @@ pub(crate) fn list(
         entries,
     } = survey;
     let needed = chosen(alloc, &places, &named)?;
-    let aimed = aimed_marks(alloc, &places, &ops, &entries, &needed)?;
-    let emitted = emitted_marks(alloc, reader, &places, &ops, &aimed)?;
+    let targeted = targeted_marks(alloc, &places, &ops, &entries, &needed)?;
+    let emitted = emitted_marks(alloc, reader, &places, &ops, &targeted)?;
     let ops = listed_operations(alloc, ops, &emitted)?;
     let places = marked(places, &emitted);
-    let aimed = marked(aimed, &emitted);
-    let begins = begins(alloc, &ops, &aimed)?;
+    let targeted = marked(targeted, &emitted);
+    let begins = begins(alloc, &ops, &targeted)?;
     let numbers = Numbers { places: &places };
     let entries = numbers.numbers_of(alloc, &entries)?;
     let needed = numbers.numbers_of(alloc, &needed)?;
@@ -109,7 +109,7 @@ fn lifted(
 }
 
 /// Whether each place begins a block wherever it is: as an entry, as a target or as a needed place.
-fn aimed_marks(
+fn targeted_marks(
     alloc: Global,
     places: &[Site],
     ops: &[SourceOp],
@@ -121,16 +121,16 @@ fn aimed_marks(
     requires ops { AreOperations given (all_places given) (all_places given) ops.now }
     requires needed { map site_of needed.now ≡ needed_places given }
     requires entries { map site_of entries.now ≡ entry_places given }
-    ensures { IfOk result (λ marks. marks.items ≡ map (has (aimed_places given)) (all_places given)) }
+    ensures { IfOk result (λ marks. marks.items ≡ map (has (targeted_places given)) (all_places given)) }
 {
     let mut marks = no_marks(alloc, places)?;
-    mark_aimed(places, &mut marks, entries, ops, needed);
+    mark_targeted(places, &mut marks, entries, ops, needed);
     Ok(marks)
 }
 
 /// Marks entries, the targets of operations and needed places.
 #[tactic(auto, using(crate::proofs::Uses::fold_append))]
-fn mark_aimed(
+fn mark_targeted(
     places: &[Site],
     marks: &mut [bool],
     entries: &[Site],
@@ -188,18 +188,18 @@ fn emitted_marks(
     reader: &Reader<'_, '_>,
     places: &[Site],
     ops: &[SourceOp],
-    aimed: &[bool],
+    targeted: &[bool],
 ) -> Result<Vec<bool>, AllocError>
     ghost given: { Given }
     requires tables { AreTables given reader.now.objects.now reader.now.tables.now }
     requires places { AreAll given (map site_of places.now) }
     requires ops { AreOperations given (all_places given) (all_places given) ops.now }
-    requires aimed { aimed.now ≡ map (has (aimed_places given)) (all_places given) }
+    requires targeted { targeted.now ≡ map (has (targeted_places given)) (all_places given) }
     ensures { IfOk result (λ marks. marks.items ≡ map (is_emitted given) (all_places given)) }
 {
     let mut reached = Vec::new(alloc);
-    reached.extend_from_slice(aimed)?;
-    mark_onward(places, &mut reached, ops);
+    reached.extend_from_slice(targeted)?;
+    mark_successor(places, &mut reached, ops);
     kept_marks(alloc, reader, places, &reached)
 }
 
@@ -213,7 +213,7 @@ fn kept_marks(
     ghost given: { Given }
     requires tables { AreTables given reader.now.objects.now reader.now.tables.now }
     requires places { AreAll given (map site_of places.now) }
-    requires reached { reached.now ≡ map (has (aimed_places given ++ onward_places given)) (all_places given) }
+    requires reached { reached.now ≡ map (has (targeted_places given ++ successor_places given)) (all_places given) }
     ensures { IfOk result (λ marks. marks.items ≡ map (is_emitted given) (all_places given)) }
 {
     let mut emitted = Vec::with_capacity(alloc, places.len())?;
@@ -234,24 +234,24 @@ fn is_kept(reader: &Reader<'_, '_>, place: Site, reached: bool) -> bool
 }
 
 /// Marks the places that the operation before can go on to.
-fn mark_onward(places: &[Site], marks: &mut [bool], ops: &[SourceOp])
+fn mark_successor(places: &[Site], marks: &mut [bool], ops: &[SourceOp])
     ghost given: { Given }
     requires places { AreAll given (map site_of places.now) }
     requires ops { AreOperations given (all_places given) (all_places given) ops.now }
     requires count { length marks.old ≡ length places.now }
-    ensures { marks.new ≡ with_marks (all_places given) marks.old (onward_places given) }
+    ensures { marks.new ≡ with_marks (all_places given) marks.old (successor_places given) }
 {
     for at in 0..places.len() {
-        mark_any(places, marks, onward(places[at], ops[at]), at + 1);
+        mark_any(places, marks, successor(places[at], ops[at]), at + 1);
     }
 }
 
 /// The place after an operation, where the machine can go on to it.
-fn onward(place: Site, op: SourceOp) -> Option<Site>
+fn successor(place: Site, op: SourceOp) -> Option<Site>
     ghost given: { Given }
     requires known { IsKnown given (site_of place) }
     requires op { option_map may_go_on (operation_at given (site_of place)) ≡ Some (may_go_on (operation_of op)) }
-    ensures { option_map site_of result ≡ onward_of given (site_of place) }
+    ensures { option_map site_of result ≡ successor_of given (site_of place) }
 {
     if can_go_on(op) {
         Some(place_after(place))
@@ -310,14 +310,14 @@ fn is_end(reader: &Reader<'_, '_>, place: Site) -> bool
 }
 
 /// Which of the listed operations begin a block.
-fn begins(alloc: Global, ops: &[SourceOp], aimed: &[bool]) -> Result<Vec<bool>, AllocError>
-    requires { length aimed.now ≡ length ops.now }
-    ensures { IfOk result (λ begins. begins.items ≡ begins_from true aimed.now (map operation_of ops.now)) }
+fn begins(alloc: Global, ops: &[SourceOp], targeted: &[bool]) -> Result<Vec<bool>, AllocError>
+    requires { length targeted.now ≡ length ops.now }
+    ensures { IfOk result (λ begins. begins.items ≡ begins_from true targeted.now (map operation_of ops.now)) }
 {
     let mut begins = Vec::with_capacity(alloc, ops.len())?;
     let mut ended = true;
     for at in 0..ops.len() {
-        begins.push(either(ended, aimed[at]))?;
+        begins.push(either(ended, targeted[at]))?;
         ended = ends_block(ops[at]);
     }
     Ok(begins)
@@ -337,8 +337,8 @@ fn ends_block(op: SourceOp) -> bool
     }
 }
 
-fn either(ended: bool, aimed: bool) -> bool
-    ensures { result ≡ (ended || aimed) }
+fn either(ended: bool, targeted: bool) -> bool
+    ensures { result ≡ (ended || targeted) }
 {
-    ended || aimed
+    ended || targeted
 }

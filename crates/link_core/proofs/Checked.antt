@@ -29,7 +29,7 @@ use Rattle.blob_codec.specs.Grammar.{Program, Container}
 use Rattle.jump_table.specs.Assembly.{Member, offset_len, entry_len, jump, members_of, instrs_of, words, first_of, instr_position, start_of, offset, placed_instr, placed as placed_members, code_members, code_of, table_of}
 use Rattle.jump_table.specs.Laws.{is_some, IsBlock, IsAssemblable, AreEnded, Fetches, IsPlaced, CodeIsPlaced}
 use Rattle.jump_table.proofs.Blocks.{block_member, member_instr, member_has, block_length, block_last, placed_position, at_number, placed_get, placed_none}
-use Rattle.jump_table.proofs.Entries.{entry_member, entry_jump, entry_position, behind_get, behind_position}
+use Rattle.jump_table.proofs.Entries.{entry_member, entry_jump, entry_position, after_get, after_position}
 use Rattle.jump_table.proofs.Placed.{placed_op}
 use Rattle.jump_table.proofs.Spelled.{some_spelling}
 use Rattle.jump_table.proofs.Starting.{starts_first}
@@ -179,7 +179,7 @@ module _ (lengths : List ℕ) (list : BlockList) (assemblable : IsAssemblable li
   instr_at at q m e is = by_get (slice_get (members_of lengths list) q) refl
     where
       get : slice_get rest q ≡ Some m
-      get = sym (behind_get lengths list 0 list.entries rest q) ∙ e
+      get = sym (after_get lengths list 0 list.entries rest q) ∙ e
 
       by_get : (o : Option Member) → slice_get (members_of lengths list) q ≡ o → InstrAt at
       by_get None none = let no : ◌≡◌ {A = Option Member} (Some m) None = sym get ∙ placed_none lengths list 0 (members_of lengths list) q none in absurd cc
@@ -190,7 +190,7 @@ module _ (lengths : List ℕ) (list : BlockList) (assemblable : IsAssemblable li
             number = q;
             m = n;
             there = some;
-            is = is ∙ behind_position lengths list 0 list.entries rest q ∙ ap (λ p. entry_len * length list.entries + p) (placed_position lengths list 0 (members_of lengths list) q);
+            is = is ∙ after_position lengths list 0 list.entries rest q ∙ ap (λ p. entry_len * length list.entries + p) (placed_position lengths list 0 (members_of lengths list) q);
             op = ap (slice_index code.bytes) is ∙ op_at (length list.entries + q) m e ∙ ap (λ (k : Member). k.instr.op) one ∙ placed_op lengths list (0 + q) n.target n.instr;
           }
 

@@ -175,8 +175,8 @@ module _ (lengths : List ℕ) (list : BlockList) (few : length (code_of lengths 
 
   -- and so has the container around it
   pub is_container : ImagesHaveLengths → (given : Given) (lifted : Lifted) → list ≡ lowered_blocks lifted → layout_faults given ≡ [] → given.wanted.stack < 2 ^ 24 → IsContainer (container_of given lengths lifted)
-  is_container images_have_lengths given lifted e laid small =
-      let fit = parts_fit given laid in
+  is_container images_have_lengths given lifted e lockstep small =
+      let fit = parts_fit given lockstep in
       record {
         read_only = omega (arith, images_have_lengths.of_read_only given, fit.read_only);
         writable = omega (arith, images_have_lengths.of_writable given, fit.writable);
@@ -204,9 +204,9 @@ module _ (given : Given) (lifted : Lifted) (lifts : Lifts given lifted) (images 
   entries_len = length-map lifted.entries _ ∙ sym (length-map lifted.entries _) ∙ ap length lifts.is.entries_are ∙ length-map-range_with_len _ 0 (length given.wanted.entries)
 
   pub spelled_is : ImagesHaveLengths → length lifted.map ≤ 2 ^ 28 → layout_faults given ≡ [] → given.wanted.stack < 2 ^ 24 → IsContainer (container_with given images assembled)
-  spelled_is images_have_lengths few laid stack =
+  spelled_is images_have_lengths few lockstep stack =
       subst IsContainer (sym (container_is given lifted images assembled are a))
-      (is_container a.lengths (lowered_blocks lifted) small (omega (arith, needed_len, few)) images_have_lengths given lifted refl laid stack)
+      (is_container a.lengths (lowered_blocks lifted) small (omega (arith, needed_len, few)) images_have_lengths given lifted refl lockstep stack)
 
   -- each entry's block has a position
   entries_are : (entries : List ℕ) → ((entry block : ℕ) → slice_get entries entry ≡ Some block → block < length (lowered_blocks lifted).blocks) → map (λ block. slice_index assembled.starts block) entries ≡ map (start_of a.lengths (lowered_blocks lifted)) entries
@@ -218,9 +218,9 @@ module _ (given : Given) (lifted : Lifted) (lifts : Lifts given lifted) (images 
       → (linked : Linked) → linked.container ≡ container_bytes (container_with given images assembled) → linked.map ≡ lifted.map
       → linked.text ≡ entry_lines 0 given.wanted.entries (map (λ block. slice_index assembled.starts block) (lowered_blocks lifted).entries) ++ data_lines given ++ got_line (got_of given) ++ code_lines given 0 lifted.map assembled.table
       → HoldsLinked given linked
-  holds agrees images_have_lengths few laid stack begin linked bytes map_is text =
+  holds agrees images_have_lengths few lockstep stack begin linked bytes map_is text =
       let container = container_of given a.lengths lifted in
-      let fits : IsContainer container = subst IsContainer (container_is given lifted images assembled are a) (spelled_is images_have_lengths few laid stack) in
+      let fits : IsContainer container = subst IsContainer (container_is given lifted images assembled are a) (spelled_is images_have_lengths few lockstep stack) in
       let linked_is : IsLinked given container = record { lifted = lifted; is_lifted = lifts.is; lengths = a.lengths; lengths_are = a.are_lengths; container_is = refl; fits = fits; small = small } in
       record {
         container = container;

@@ -117,9 +117,9 @@ module _ (given : Given) where
 pub content_last : (given i : Given) (result : Result Linked LinkFault) → i ≡ given → symbol_faults given ≡ [] → layout_faults given ≡ []
     → MatchResult result (λ l. HasNone (content_faults i) i × HoldsLinked i l) (Refuses (IsFirst (content_faults i) i))
     → MatchResult result (λ l. HasNone (given_faults given) given × HoldsLinked given l) (Refuses (IsFirst (given_faults given) given))
-content_last given i result e none laid holds =
+content_last given i result e none lockstep holds =
     none_before (HoldsLinked given) (symbol_faults given) (layout_faults given ++ content_faults given) given result none
-    (none_before (HoldsLinked given) (layout_faults given) (content_faults given) given result laid
+    (none_before (HoldsLinked given) (layout_faults given) (content_faults given) given result lockstep
     (subst (λ g. MatchResult result (λ l. HasNone (content_faults g) g × HoldsLinked g l) (Refuses (IsFirst (content_faults g) g))) e holds))
 
 -- the given of objects and wanted names

@@ -7,6 +7,6 @@ pub mod OneFault
 pub mod Containers
 pub mod OneProgram
 pub mod Hosts
-pub mod CodeLock
+pub mod CodeLockstep
 pub mod Agreement
 mod Checked

@@ -26,10 +26,10 @@ pub total_parts : (ends bytes : List ℕ) → Rise 0 ends (length bytes) → tot
 total_parts ends bytes h = omega (arith, total_from 0 ends bytes h)
 
 -- it begins where the one before it ends
-pub start_behind : (start : ℕ) (ends : List ℕ) (at end : ℕ) → slice_get ends at ≡ Some end → start_at start ends (suc at) ≡ end
-start_behind start [] at end e = absurd cc
-start_behind start (x ∷ ends) zero end e = cc
-start_behind start (x ∷ ends) (suc at) end e = start_behind x ends at end e
+pub start_after : (start : ℕ) (ends : List ℕ) (at end : ℕ) → slice_get ends at ≡ Some end → start_at start ends (suc at) ≡ end
+start_after start [] at end e = absurd cc
+start_after start (x ∷ ends) zero end e = cc
+start_after start (x ∷ ends) (suc at) end e = start_after x ends at end e
 
 pub record IsWithin (start end last : ℕ) : Type 0 where
   pub up : start ≤ end
@@ -60,8 +60,8 @@ pub parts_more : (start : ℕ) (ends bytes piece : List ℕ) → Rise start ends
 unfolding parts
 parts_more start [] bytes piece h =
     let all : length bytes + length piece - start ≡ length piece = omega (arith, h) in
-    let behind : drop start (bytes ++ piece) ≡ piece = ap (λ n. drop n (bytes ++ piece)) h ∙ drop-append_seam bytes piece in
-    rw (all, behind) (ap (λ l. l ∷ []) (take-length piece))
+    let after : drop start (bytes ++ piece) ≡ piece = ap (λ n. drop n (bytes ++ piece)) h ∙ drop-append_seam bytes piece in
+    rw (all, after) (ap (λ l. l ∷ []) (take-length piece))
 parts_more start (end ∷ ends) bytes piece h =
     rw (take_front start end bytes piece h.0 (rise_le end ends (length bytes) h.2)) (ap (λ l. take (end - start) (drop start bytes) ∷ l) (parts_more end ends bytes piece h.2))
 
@@ -86,7 +86,7 @@ pub start_is : (ends : List ℕ) (at : ℕ) → (at ≡ 0 → ⊥) → at < leng
 start_is ends zero e lt = absurd (e refl)
 start_is ends (suc at) e lt =
     let before : suc at - 1 ≡ at = omega arith in
-    rw before (sym (start_behind 0 ends at (slice_index_or ends at 0) (slice_get-get_or ends at 0 (omega (arith, lt)))))
+    rw before (sym (start_after 0 ends at (slice_index_or ends at 0) (slice_get-get_or ends at 0 (omega (arith, lt)))))
 
 -- a bundle with a file more
 pub bundle_more : (ends bytes piece ends' bytes' : List ℕ) (end : ℕ) → IsBundle ends bytes → ends' ≡ ends ++ (end ∷ []) → bytes' ≡ bytes ++ piece → end ≡ length bytes + length piece → length (parts 0 ends bytes) < 1024 → length piece ≤ 2 ^ 24 → total (parts 0 ends bytes) + length piece ≤ 2 ^ 26 → IsBundle ends' bytes'

@@ -1,6 +1,6 @@
 -- The two runs: that of the objects, by steps, and that of the linked program, under gas.
 use Rattle.std.specs.Prelude.{ℕ, List}
-use Rattle.runs.specs.Runs.{Steps, Paid, run}
+use Rattle.runs.specs.Runs.{Steps, MeteredRun, run}
 use Rattle.machine_state.specs.Ends.{Event, End, Host}
 use Rattle.machine_state.specs.Start.{Image, start_state}
 use Rattle.symbols.specs.Wanted.{Given}
@@ -30,5 +30,5 @@ source_run host held given entry argument n =
 -- The container's run with so much gas, from the standard start with an argument, at the jump of the entry with a
 -- number, with the same host: entry i begins at position 5 i (JAM Gray Paper 0.7.0, appendix A: invocations at 0, 5, 10
 -- and so on).
-abbrev pub machine_run : {Held : Type 0} → Host Held → Held → Container → ℕ → List ℕ → ℕ → Paid Event End
+abbrev pub machine_run : {Held : Type 0} → Host Held → Held → Container → ℕ → List ℕ → ℕ → MeteredRun Event End
 machine_run host held c entry argument gas = run_with host held (started c entry argument gas)

@@ -110,7 +110,7 @@ impl<'a> Input<'a> {
 
     /// The data and the stack fit a container. It does nothing.
     pub(crate) fn fits(&self)
-        ensures laid_out { layout_faults self.now ≡ [] }
+        ensures no_layout_fault { layout_faults self.now ≡ [] }
         ensures stack { self.now.wanted.stack < 2 ^ 24 }
     {
         let _stack = self.wanted.stack();

@@ -18,10 +18,10 @@ mod program;
 pub use bundle::Bundle;
 use inner_machines::calls_answer_well;
 use jump_table::code_is_placed;
-use lift_blocks::{bounds_stay, lifted_is_one, source_lock};
+use lift_blocks::{bounds_stay, lifted_is_one, source_lockstep};
 pub use link_fault::LinkFault;
 pub use linker::{CODE_BYTES_TOO_LARGE, Linked, first_fault_is_one, link};
-use lower::blocks_are_carried_out;
+use lower::blocks_are_implemented;
 use machine_state::start_is_good;
 use pvm_machine::effects_keep_targets;
 
@@ -29,9 +29,9 @@ use pvm_machine::effects_keep_targets;
 pub fn linked_agrees()
     ensures { LinkedAgrees }
 {
-    source_lock();
+    source_lockstep();
     bounds_stay();
-    blocks_are_carried_out();
+    blocks_are_implemented();
     code_is_placed();
     effects_keep_targets();
     start_is_good();
@@ -51,5 +51,5 @@ pub fn linked_is_checked()
     ensures { LinkedIsChecked }
 {
     code_is_placed();
-    blocks_are_carried_out();
+    blocks_are_implemented();
 }

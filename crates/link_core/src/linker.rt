@@ -4,7 +4,7 @@ ghost use Rattle.std.specs.Prelude.{◌≡◌, [], Some, MatchResult, OnOk, OnEr
 ghost use Rattle.faults.specs.Present.{first_in};
 ghost use Rattle.std.specs.List.{filter_map};
 ghost use Rattle.std.specs.Io.KnownBytes.{Appends};
-ghost use Rattle.outside.specs.Outside.{AppendsFront, HasCause};
+ghost use Rattle.outside.specs.Outside.{AppendsPrefix, HasCause};
 ghost use Rattle.elf_objects.specs.Reading.{object_of};
 ghost use Rattle.symbols.specs.Wanted.{Given};
 ghost use Rattle.link_core.specs.Faults.{object_faults, input_of, given_faults, HasNone, IsFirst, HasNoFault, HasFirstFault, FirstFaultIsOne, Refuses};
@@ -67,7 +67,7 @@ impl Linked {
     /// Where the write fails; a prefix of the map was written then.
     pub fn map_text<S: Sink>(&self, out: &mut S) -> Result<(), Failed>
         ensures ok { OnOk result (Appends (S.bytes out.old) (S.bytes out.new) self.now.text) }
-        ensures err { OnErr result (AppendsFront (S.bytes out.old) (S.bytes out.new) self.now.text) }
+        ensures err { OnErr result (AppendsPrefix (S.bytes out.old) (S.bytes out.new) self.now.text) }
         ensures cause { HasCause (S.faults out.old) (S.faults out.new) result }
     {
         out.put(&self.text)

@@ -21,7 +21,7 @@ use blob_codec::{Parts, write_container, write_program};
 use elf_objects::Fault;
 use jump_table::{AssembleFault, Assembled, assemble};
 use lift_blocks::{Lifted, lifted_is_one};
-use lower::{blocks_are_carried_out, lower};
+use lower::{blocks_are_implemented, lower};
 use pvm_ops::{Blocks, Bytes8};
 use relocs::{Images, images_have_lengths};
 use std::alloc::{AllocError, Global};
@@ -33,7 +33,7 @@ pub(crate) fn link_input(alloc: Global, input: &Input<'_>) -> Result<Linked, Lin
         (λ linked. HasNone (content_faults input.now) input.now × HoldsLinked input.now linked)
         (Refuses (IsFirst (content_faults input.now) input.now)) }
 {
-    blocks_are_carried_out();
+    blocks_are_implemented();
     lifted_is_one();
     let lifted = input.lift(alloc)?;
     let images = input.images(alloc, lifted.map())?;

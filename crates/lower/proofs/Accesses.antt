@@ -10,7 +10,7 @@ use Rattle.rv_decode.specs.declared.ops.StoreWidth.TheVariants.{Sb, Sh, Sw, Sd}
 use Rattle.rv_decode.specs.declared.ops.RvOp.TheVariants as rv
 use Rattle.rv_decode.specs.Operations.{IsWritten}
 use Rattle.runs.specs.Machine.{Outcome}
-use Rattle.runs.specs.Pieces.{NoCall, GoodOutcome}
+use Rattle.runs.specs.Segments.{NoCall, GoodOutcome}
 use Rattle.machine_state.specs.State.{State, register, with_register, IsState}
 use Rattle.machine_state.specs.Ends.{End}
 use Rattle.machine_state.proofs.Registers.{memory_stays, registers_stay}

@@ -12,7 +12,7 @@ use Rattle.jump_table.specs.Laws.{IsPlainInstr}
 use Rattle.lower.specs.Plain.{lower_plain, three_of, listed, IsLowerable}
 use Rattle.lower.specs.Cutting.{instr_does}
 use Rattle.lower.specs.Laws.{HasEffect, OperationsAreLowered}
-use Rattle.lower.proofs.Single.{aimed_at_none}
+use Rattle.lower.proofs.Single.{targeted_at_none}
 use Rattle.lower.proofs.Effects.{lowers_plain}
 use Rattle.lower.proofs.Encodable.{alone_is_plain}
 
@@ -36,13 +36,13 @@ module _ (needed : List ℕ) where
   then_same (Ends x) f g e = refl
 
   -- instructions without offsets do the same with and without targets
-  unaimed_does : (is : List Instr) (s : State) → ◌≡◌ {A = Outcome ℕ State End} (does (effect needed 0) is s) (does (instr_does needed) (map aimed_at_none is) s)
-  unaimed_does [] s = refl
-  unaimed_does (i ∷ is) s = then_same (effect needed 0 i s) (does (effect needed 0) is) (does (instr_does needed) (map aimed_at_none is)) (λ t. unaimed_does is t)
+  untargeted_does : (is : List Instr) (s : State) → ◌≡◌ {A = Outcome ℕ State End} (does (effect needed 0) is s) (does (instr_does needed) (map targeted_at_none is) s)
+  untargeted_does [] s = refl
+  untargeted_does (i ∷ is) s = then_same (effect needed 0 i s) (does (effect needed 0) is) (does (instr_does needed) (map targeted_at_none is)) (λ t. untargeted_does is t)
 
 -- an operation has three instructions at most
 few_of_alone : (op : RvOp) → IsLowerable op → length (lower_plain op) ≤ 3
-few_of_alone op h = rw (← length-map (lower_plain op) aimed_at_none) (lowers_plain [] op h).three
+few_of_alone op h = rw (← length-map (lower_plain op) targeted_at_none) (lowers_plain [] op h).three
 
 -- so all of them are listed
 pub all_are_listed : (op : RvOp) → IsLowerable op → listed (three_of (lower_plain op)) ≡ lower_plain op
@@ -56,4 +56,4 @@ listed_are_plain op h = subst (λ is. AllByRecursion IsPlainInstr is) (sym (all_
 pub has_effect : (op : RvOp) → IsLowerable op → HasEffect op (listed (three_of (lower_plain op)))
 has_effect op h needed s g =
     let lowers = lowers_plain needed op h in
-    ap (λ is. does (effect needed 0) is s) (all_are_listed op h) ∙ unaimed_does needed (lower_plain op) s ∙ lowers.same s g
+    ap (λ is. does (effect needed 0) is s) (all_are_listed op h) ∙ untargeted_does needed (lower_plain op) s ∙ lowers.same s g

@@ -7,7 +7,7 @@ use Rattle.std.proofs.lemmas.List.{append-nil, get_or-drop, length-drop, map-app
 use Rattle.std.proofs.lemmas.Bool.{lt-ltb}
 use Rattle.std.proofs.lemmas.Option.{get_or_from_slice_get}
 use Rattle.runs.specs.Blocks.{block_of}
-use Rattle.runs.specs.Pieces.{lowered}
+use Rattle.runs.specs.Segments.{lowered}
 use Rattle.lift_blocks.specs.Operations.{Operation}
 use Rattle.lift_blocks.specs.Listed.{ends_block}
 use Rattle.pvm_ops.specs.declared.instr.Instr.{Instr}
@@ -15,8 +15,8 @@ use Rattle.pvm_ops.specs.BlockList.{Block, BlockList, change_last, empty_block}
 use Rattle.lower.specs.declared.forms.Three.{Three}
 use Rattle.lower.specs.Plain.{listed}
 use Rattle.lower.specs.Constants.{runs}
-use Rattle.lower.specs.Lowering.{tail_if, tail_of, aim_of, aim_of_last, run_instrs, part_instrs, block_instrs, lower_block}
-use Rattle.lower.specs.Building.{one_if, with_instrs, extended, with_target_if, aimed_at, with_block}
+use Rattle.lower.specs.Lowering.{tail_if, tail_of, offset_target, last_offset_target, run_instrs, part_instrs, block_instrs, lower_block}
+use Rattle.lower.specs.Building.{one_if, with_instrs, extended, with_target_if, targeted_at, with_block}
 
 -- as many blocks
 pub length-change_last : (change : Block → Block) (bs : List Block) → length (change_last change bs) ≡ length bs
@@ -45,8 +45,8 @@ change_last-no_target [] = refl
 change_last-no_target (b ∷ []) = refl
 change_last-no_target (b ∷ c ∷ rest) = ap (λ bs. b ∷ bs) (change_last-no_target (c ∷ rest))
 
-pub aimed_at-none : (list : BlockList) → aimed_at None list ≡ list
-aimed_at-none list = ap (λ bs. record list { blocks = bs }) (change_last-no_target list.blocks)
+pub targeted_at-none : (list : BlockList) → targeted_at None list ≡ list
+targeted_at-none list = ap (λ bs. record list { blocks = bs }) (change_last-no_target list.blocks)
 
 -- more instructions twice
 change_last-twice : (is js : List Instr) (bs : List Block) → change_last (with_instrs js) (change_last (with_instrs is) bs) ≡ change_last (with_instrs (is ++ js)) bs
@@ -119,10 +119,10 @@ tail_of-last [] op = refl
 tail_of-last (a ∷ []) op = refl
 tail_of-last (a ∷ b ∷ ops) op = tail_of-last (b ∷ ops) op
 
-aim_of-last : (needed : List ℕ) (ops : List (Operation ℕ)) (op : Operation ℕ) → aim_of_last needed (ops ++ op ∷ []) ≡ aim_of needed op
-aim_of-last needed [] op = refl
-aim_of-last needed (a ∷ []) op = refl
-aim_of-last needed (a ∷ b ∷ ops) op = aim_of-last needed (b ∷ ops) op
+offset_target-last : (needed : List ℕ) (ops : List (Operation ℕ)) (op : Operation ℕ) → last_offset_target needed (ops ++ op ∷ []) ≡ offset_target needed op
+offset_target-last needed [] op = refl
+offset_target-last needed (a ∷ []) op = refl
+offset_target-last needed (a ∷ b ∷ ops) op = offset_target-last needed (b ∷ ops) op
 
 -- a block with its target
 with_target-none : (is : List Instr) (target : Option ℕ) → with_target_if target (record { instrs = is; target = None }) ≡ record { instrs = is; target = target }
@@ -131,25 +131,25 @@ with_target-none is (Some target) = refl
 
 -- the block of operations whose last is known
 block-last : (needed : List ℕ) (begins : List Bool) (front : List (Operation ℕ)) (op : Operation ℕ)
-    → with_target_if (option_map (block_of begins) (aim_of needed op)) (record { instrs = part_instrs needed (front ++ op ∷ []) ++ tail_if (ends_block op); target = None })
+    → with_target_if (option_map (block_of begins) (offset_target needed op)) (record { instrs = part_instrs needed (front ++ op ∷ []) ++ tail_if (ends_block op); target = None })
     ≡ lower_block needed begins (front ++ op ∷ [])
 block-last needed begins front op =
     let ops : List (Operation ℕ) = front ++ op ∷ [] in
     let low : List Instr = part_instrs needed ops in
     let instrs : low ++ tail_if (ends_block op) ≡ block_instrs needed ops = ap (λ is. low ++ is) (sym (tail_of-last front op)) in
-    let target : option_map (block_of begins) (aim_of needed op) ≡ option_map (block_of begins) (aim_of_last needed ops) = ap (option_map (block_of begins)) (sym (aim_of-last needed front op)) in
-    with_target-none (low ++ tail_if (ends_block op)) (option_map (block_of begins) (aim_of needed op))
-    ∙ ap (λ is. record { instrs = is; target = option_map (block_of begins) (aim_of needed op) }) instrs
+    let target : option_map (block_of begins) (offset_target needed op) ≡ option_map (block_of begins) (last_offset_target needed ops) = ap (option_map (block_of begins)) (sym (offset_target-last needed front op)) in
+    with_target-none (low ++ tail_if (ends_block op)) (option_map (block_of begins) (offset_target needed op))
+    ∙ ap (λ is. record { instrs = is; target = option_map (block_of begins) (offset_target needed op) }) instrs
     ∙ ap (λ o. record { instrs = block_instrs needed ops; target = o }) target
 
 -- an empty block, with the instructions of operations, and ended with the last
 pub block_is_built : (needed : List ℕ) (begins : List Bool) (front : List (Operation ℕ)) (op : Operation ℕ) (list : BlockList)
-    → aimed_at (option_map (block_of begins) (aim_of needed op)) (extended (tail_if (ends_block op)) (extended (part_instrs needed (front ++ op ∷ [])) (with_block empty_block list)))
+    → targeted_at (option_map (block_of begins) (offset_target needed op)) (extended (tail_if (ends_block op)) (extended (part_instrs needed (front ++ op ∷ [])) (with_block empty_block list)))
     ≡ with_block (lower_block needed begins (front ++ op ∷ [])) list
 block_is_built needed begins front op list =
     let low : List Instr = part_instrs needed (front ++ op ∷ []) in
     let tail : List Instr = tail_if (ends_block op) in
-    let target : Option ℕ = option_map (block_of begins) (aim_of needed op) in
+    let target : Option ℕ = option_map (block_of begins) (offset_target needed op) in
     ap (λ bs. record list { blocks = bs }) (
     ap (λ bs. change_last (with_target_if target) (change_last (with_instrs tail) bs)) (change_last-more (with_instrs low) list.blocks empty_block)
     ∙ ap (change_last (with_target_if target)) (change_last-more (with_instrs tail) list.blocks (with_instrs low empty_block))
@@ -164,14 +164,14 @@ some_block block list new e = rw e (omega (arith, length-append list.blocks (blo
 pub block_is_added : (needed : List ℕ) (begins : List Bool) (ops : List (Operation ℕ)) (from to : ℕ) (op : Operation ℕ) (list empty filled ended : BlockList)
     → from < to → to ≤ length ops → slice_get ops (to - 1) ≡ Some op
     → empty ≡ with_block empty_block list → filled ≡ extended (part_instrs needed (slice_range ops from to)) empty
-    → ended ≡ aimed_at (option_map (block_of begins) (aim_of needed op)) (extended (tail_if (ends_block op)) filled)
+    → ended ≡ targeted_at (option_map (block_of begins) (offset_target needed op)) (extended (tail_if (ends_block op)) filled)
     → ended ≡ with_block (lower_block needed begins (slice_range ops from to)) list
 block_is_added needed begins ops from to op list empty filled ended lt within there e f g =
     let front : List (Operation ℕ) = slice_range ops from (to - 1) in
     let next : to - 1 + 1 ≡ to = omega arith in
     let part : slice_range ops from to ≡ front ++ op ∷ [] = ap (slice_range ops from) (sym next) ∙ slice_range-more ops from (to - 1) op (omega arith) (omega arith) there in
-    g ∙ ap (λ l. aimed_at (option_map (block_of begins) (aim_of needed op)) (extended (tail_if (ends_block op)) l)) (f ∙ ap (extended (part_instrs needed (slice_range ops from to))) e)
-    ∙ ap (λ ops. aimed_at (option_map (block_of begins) (aim_of needed op)) (extended (tail_if (ends_block op)) (extended (part_instrs needed ops) (with_block empty_block list)))) part
+    g ∙ ap (λ l. targeted_at (option_map (block_of begins) (offset_target needed op)) (extended (tail_if (ends_block op)) l)) (f ∙ ap (extended (part_instrs needed (slice_range ops from to))) e)
+    ∙ ap (λ ops. targeted_at (option_map (block_of begins) (offset_target needed op)) (extended (tail_if (ends_block op)) (extended (part_instrs needed ops) (with_block empty_block list)))) part
     ∙ block_is_built needed begins front op list
     ∙ ap (λ ops. with_block (lower_block needed begins ops) list) (sym part)
 

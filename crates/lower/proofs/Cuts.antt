@@ -126,20 +126,20 @@ span d (op ∷ ops) = by_test (goes_on d op) refl (span d ops)
     by_test false e s = record { run = []; rest = op ∷ ops; is = refl; go = tt; ends = rw e refl }
 
 -- a part in front of others
-apart_behind : (part : List (Operation ℕ)) (parts : List (List (Operation ℕ))) → AllByRecursion IsRunOrOne parts → AreApart parts
+apart_after : (part : List (Operation ℕ)) (parts : List (List (Operation ℕ))) → AllByRecursion IsRunOrOne parts → AreApart parts
     → ((op : Operation ℕ) (ops : List (Operation ℕ)) (rest : List (List (Operation ℕ))) → parts ≡ (op ∷ ops) ∷ rest → IsRun (part ++ op ∷ ops) → ⊥) → AreApart (part ∷ parts)
-apart_behind part [] each apart none = tt
-apart_behind part ([] ∷ parts) each apart none = absurd each.0
-apart_behind part ((op ∷ ops) ∷ parts) each apart none = (none op ops parts refl, apart)
+apart_after part [] each apart none = tt
+apart_after part ([] ∷ parts) each apart none = absurd each.0
+apart_after part ((op ∷ ops) ∷ parts) each apart none = (none op ops parts refl, apart)
 
-behind_goes : (d : ℕ) (run : List (Operation ℕ)) (op : Operation ℕ) (ops : List (Operation ℕ)) → AllGoOn d (run ++ op ∷ ops) → goes_on d op ≡ true
-behind_goes d [] op ops h = h.0
-behind_goes d (next ∷ run) op ops h = behind_goes d run op ops h.1
+after_goes : (d : ℕ) (run : List (Operation ℕ)) (op : Operation ℕ) (ops : List (Operation ℕ)) → AllGoOn d (run ++ op ∷ ops) → goes_on d op ≡ true
+after_goes d [] op ops h = h.0
+after_goes d (next ∷ run) op ops h = after_goes d run op ops h.1
 
 run_apart : (d : ℕ) (op : Operation ℕ) (run rest : List (Operation ℕ)) → begins_run op ≡ Some d → ends_before (Some d) rest ≡ true → (next : Operation ℕ) (ops : List (Operation ℕ)) (parts : List (List (Operation ℕ))) → joined (runs rest) ≡ rest → runs rest ≡ (next ∷ ops) ∷ parts → IsRun (op ∷ run ++ next ∷ ops) → ⊥
 run_apart d op run rest b e next ops parts all is h =
     let same = one_number d h.0 (begins_run op) b h.1.0 in
-    let goes : goes_on d next ≡ true = subst (λ n. goes_on n next ≡ true) (sym same) (behind_goes h.0 run next ops h.1.1) in
+    let goes : goes_on d next ≡ true = subst (λ n. goes_on n next ≡ true) (sym same) (after_goes h.0 run next ops h.1.1) in
     let first : rest ≡ next ∷ ops ++ joined parts = sym all ∙ ap joined is in
     let none : not (goes_on d next) ≡ true = subst (λ l. ends_before (Some d) l ≡ true) first e in
     let wrong : true ≡ false = sym goes ∙ not_false (goes_on d next) none in
@@ -163,7 +163,7 @@ runs_are_cut (suc count) (op ∷ ops) le = by_begin (begins_run op) refl (λ res
         subst (λ l. IsCutAtRuns (op ∷ ops) l) (sym (cut_alone op ops b)) (record {
           all = ap (λ l. op ∷ l) r.all;
           each = (tt, r.each);
-          apart = apart_behind (op ∷ []) (runs ops) r.each r.apart (λ next rest parts is h. alone_apart op next rest b h);
+          apart = apart_after (op ∷ []) (runs ops) r.each r.apart (λ next rest parts is h. alone_apart op next rest b h);
         })
     by_begin (Some d) b more =
         let s = span d ops in
@@ -172,7 +172,7 @@ runs_are_cut (suc count) (op ∷ ops) le = by_begin (begins_run op) refl (λ res
         subst (λ l. IsCutAtRuns (op ∷ ops) l) (sym cut) (record {
           all = ap (λ l. op ∷ s.run ++ l) r.all ∙ ap (λ l. op ∷ l) (sym s.is);
           each = (run_or_one d op s.run b s.go, r.each);
-          apart = apart_behind (op ∷ s.run) (runs s.rest) r.each r.apart (λ next rest parts is h. run_apart d op s.run s.rest b s.ends next rest parts r.all is h);
+          apart = apart_after (op ∷ s.run) (runs s.rest) r.each r.apart (λ next rest parts is h. run_apart d op s.run s.rest b s.ends next rest parts r.all is h);
         })
 
 pub runs_cut : (ops : List (Operation ℕ)) → IsCutAtRuns ops (runs ops)

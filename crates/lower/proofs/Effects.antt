@@ -17,7 +17,7 @@ use Rattle.rv_decode.specs.declared.ops.RvOp.TheVariants as rv
 use Rattle.rv_decode.specs.Operations.{IsReg}
 use Rattle.runs.specs.Machine.{Outcome, Next, Ends}
 use Rattle.runs.specs.Numbers.{halt_address, named, to_named, jump_by}
-use Rattle.runs.specs.Pieces.{NoCall, GoodOutcome}
+use Rattle.runs.specs.Segments.{NoCall, GoodOutcome}
 use Rattle.machine_state.specs.State.{State, register, with_register, IsState}
 use Rattle.machine_state.specs.Ends.{End, halt, panic}
 use Rattle.machine_state.proofs.Registers.{registers_stay, register_fits}
@@ -32,7 +32,7 @@ use Rattle.lower.specs.Instructions.{rrx, rrr, load_imm, move_reg, add_imm_32, s
 use Rattle.lower.specs.Plain.{alu_imm_opcode, alu_opcode, with_second_zero, with_first_zero, lower_plain, IsLowerable}
 use Rattle.lower.proofs.Rows.{sum_zero_r, sub_zero_r, or_zero, xor_zero, shlo_l_zero_r, shlo_r_zero_r, shar_r_zero_r, and_zero, mul_zero_r, upper_s_s_zero_r, upper_s_u_zero_r, upper_u_u_zero_r, mul_32_zero_r, less_zero, sub_32_zero_r, rem_32_zero_r, shlo_l_32_zero_r, shlo_r_32_zero_r, shar_r_32_zero_r, sum_zero_l, zero_shlo_l, zero_shlo_r, zero_shar_r, zero_mul, zero_upper_s_s, zero_upper_s_u, zero_upper_u_u, zero_mul_32, zero_add_32, zero_rem_s, zero_rem_u, zero_rem_s_32, zero_rem_u_32, zero_shlo_l_32, zero_shlo_r_32, zero_shar_r_32, zero_div_u, zero_div_s, zero_div_u_32, zero_div_s_32}
 use Rattle.lower.proofs.Accesses.{lowers_load, lowers_store}
-use Rattle.lower.proofs.Single.{and_no_more, LowersOp, run_alone, few_aimed}
+use Rattle.lower.proofs.Single.{and_no_more, LowersOp, run_alone, few_targeted}
 use Rattle.lower.proofs.Immediates.{word_fits, operand_is_signed}
 
 -- the immediate of an operation is a word
@@ -89,8 +89,8 @@ module _ (needed : List ℕ) where
   puts : (op : RvOp) (d : ℕ) (f : State → ℕ) → length (lower_plain op) ≤ 3 → ((s : State) → ◌≡◌ {A = Outcome ℕ State End} (plain_does op s) (put s d (f s))) → ((s : State) → IsState s → f s < 2 ^ 64) → ((s : State) → IsState s → run_alone needed (lower_plain op) s ≡ put s d (f s)) → LowersOp needed (Plain op)
   puts op d f few does_so fits same = record {
     same = λ s g. same s g ∙ sym (does_so s);
-    three = few_aimed needed (lower_plain op) few;
-    quiet = λ s. subst (λ o. NoCall o) (sym (does_so s)) tt;
+    three = few_targeted needed (lower_plain op) few;
+    silent = λ s. subst (λ o. NoCall o) (sym (does_so s)) tt;
     stays = λ s g. subst (λ o. GoodOutcome IsState o) (sym (does_so s)) (registers_stay s d (f s) g (fits s g));
   }
 
@@ -104,8 +104,8 @@ module _ (needed : List ℕ) where
   does_nothing : (op : RvOp) → lower_plain op ≡ [] → ((s : State) → ◌≡◌ {A = Outcome ℕ State End} (plain_does op s) (Next s)) → LowersOp needed (Plain op)
   does_nothing op is does_so = record {
     same = λ s g. ap (λ is. run_alone needed is s) is ∙ sym (does_so s);
-    three = few_aimed needed (lower_plain op) (rw is none_are_few);
-    quiet = λ s. subst (λ o. NoCall o) (sym (does_so s)) tt;
+    three = few_targeted needed (lower_plain op) (rw is none_are_few);
+    silent = λ s. subst (λ o. NoCall o) (sym (does_so s)) tt;
     stays = λ s g. subst (λ o. GoodOutcome IsState o) (sym (does_so s)) g;
   }
 
@@ -303,5 +303,5 @@ module _ (needed : List ℕ) where
   lowers_plain (rv.OpImm op rd rs1 imm) h = lowers_immediate op rd rs1 imm h.2
   lowers_plain (rv.Op op rd rs1 rs2) h = lowers_registers op rd rs1 rs2 h.0
   lowers_plain rv.Fence h = does_nothing rv.Fence refl (λ s. refl)
-  lowers_plain rv.Trap h = record { same = λ s g. rw opcode.trap refl; three = omega arith; quiet = λ s. tt; stays = λ s g. tt }
+  lowers_plain rv.Trap h = record { same = λ s g. rw opcode.trap refl; three = omega arith; silent = λ s. tt; stays = λ s g. tt }
   lowers_plain op h = absurd h

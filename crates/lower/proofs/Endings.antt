@@ -24,7 +24,7 @@ use Rattle.pvm_ops.proofs.Table as opcode
 use Rattle.blob_check.specs.Starts.{is_terminator}
 use Rattle.jump_table.specs.Laws.{IsPlaceable, IsPlainInstr, is_some}
 use Rattle.lower.specs.Instructions.{rro, rxo, jump, load_imm_jump, fallthrough, jump_ind, load_imm}
-use Rattle.lower.specs.Lowering.{branch_opcode, branch_zero_opcode, zero_branch_opcode, jump_if, jump_with, jump_to, jump_by_register, clears_if, lower_op, target_if, aim_of}
+use Rattle.lower.specs.Lowering.{branch_opcode, branch_zero_opcode, zero_branch_opcode, jump_if, jump_with, jump_to, jump_by_register, clears_if, lower_op, target_if, offset_target}
 use Rattle.lift_blocks.specs.Fits.{IsLink}
 use Rattle.lower.specs.Laws.{IsEnding, EndingsArePlaceable}
 use Rattle.lower.proofs.Encodable.{short, small_is_short, trap_is_plain, fallthrough_is_plain, rx_is_plain, load_imm_is_plain}
@@ -54,20 +54,20 @@ jump_is_placeable = record {
 -- an instruction that ends a block, by its target
 record IsLast (i : Instr) (target : Option ℕ) : Type 0 where
   placeable : IsPlaceable i
-  aimed : has_offset (form_of i.op) ≡ is_some target
+  targeted : has_offset (form_of i.op) ≡ is_some target
   terminator : is_terminator i.op ≡ true
 
 rro_last : (op a b target : ℕ) → IsTrue (is_known op) → form_of op ≡ RRO → is_terminator op ≡ true → a < 13 → b < 13 → IsLast (rro op a b) (Some target)
-rro_last op a b target known is ends small_a small_b = record { placeable = rro_is_placeable op a b known is small_a small_b; aimed = rw is refl; terminator = ends }
+rro_last op a b target known is ends small_a small_b = record { placeable = rro_is_placeable op a b known is small_a small_b; targeted = rw is refl; terminator = ends }
 
 rxo_last : (op a x target : ℕ) → IsTrue (is_known op) → form_of op ≡ RXO → is_terminator op ≡ true → a < 13 → IsShort x → IsLast (rxo op a x) (Some target)
-rxo_last op a x target known is ends small h = record { placeable = rxo_is_placeable op a x known is small h; aimed = rw is refl; terminator = ends }
+rxo_last op a x target known is ends small h = record { placeable = rxo_is_placeable op a x known is small h; targeted = rw is refl; terminator = ends }
 
 jump_last : (target : ℕ) → IsLast jump (Some target)
-jump_last target = record { placeable = jump_is_placeable; aimed = rw opcode.jump_form refl; terminator = refl }
+jump_last target = record { placeable = jump_is_placeable; targeted = rw opcode.jump_form refl; terminator = refl }
 
 trap_last : IsLast trap None
-trap_last = record { placeable = of_plain trap trap_is_plain; aimed = trap_is_plain.no_offset; terminator = refl }
+trap_last = record { placeable = of_plain trap trap_is_plain; targeted = trap_is_plain.no_offset; terminator = refl }
 
 load_imm_jump_last : (d link target : ℕ) → d < 13 → link < 2 ^ 31 → IsLast (load_imm_jump d link) (Some target)
 load_imm_jump_last d link target small h = rxo_last 80 d link target opcode.load_imm_jump_known opcode.load_imm_jump_form refl small (small_is_short link h)
@@ -98,7 +98,7 @@ zero_branch_last Geu b target h = rxo_last 84 b 0 target opcode.branch_le_u_imm_
 
 known_last : (b : Bool) (target : ℕ) → IsLast (jump_if b) (target_if b target)
 known_last true target = jump_last target
-known_last false target = record { placeable = of_plain fallthrough fallthrough_is_plain; aimed = fallthrough_is_plain.no_offset; terminator = refl }
+known_last false target = record { placeable = of_plain fallthrough fallthrough_is_plain; targeted = fallthrough_is_plain.no_offset; terminator = refl }
 
 jump_with_last : (rd : Reg) (link target : ℕ) → IsReg rd → IsLink rd link → IsLast (jump_with rd link) (Some target)
 jump_with_last Zero link target h k = jump_last target
@@ -111,21 +111,21 @@ jump_to_last (Some target) rd link h k = jump_with_last rd link target h k
 register_last : (rd : Reg) (a : ℕ) (imm : ℤ) (link : ℕ) → IsReg rd → a < 13 → IsSigned 32 imm → IsLink rd link → IsLast (jump_by_register rd a (word_of imm) link) None
 register_last Zero a imm link h k i l =
     let plain = rx_is_plain 50 a (word_of imm) opcode.jump_ind_known opcode.jump_ind_form k (short imm i) in
-    record { placeable = of_plain (jump_ind a (word_of imm)) plain; aimed = plain.no_offset; terminator = refl }
+    record { placeable = of_plain (jump_ind a (word_of imm)) plain; targeted = plain.no_offset; terminator = refl }
 register_last (R d) a imm link h k i l = record {
   placeable = record {
     known = opcode.load_imm_jump_ind_known;
     encodable = record { a = omega arith; b = omega arith; d = omega arith; offset = omega arith; unused = rw opcode.load_imm_jump_ind_form refl; fit = rw opcode.load_imm_jump_ind_form (small_is_short link l, short imm i) };
   };
-  aimed = rw opcode.load_imm_jump_ind_form refl;
+  targeted = rw opcode.load_imm_jump_ind_form refl;
   terminator = refl;
 }
 
 module _ (needed : List ℕ) where
   -- an operation with one instruction
-  one_last : (op : Operation ℕ) (i : Instr) → lower_op needed op ≡ i ∷ [] → IsLast i (aim_of needed op) → IsEnding needed op
+  one_last : (op : Operation ℕ) (i : Instr) → lower_op needed op ≡ i ∷ [] → IsLast i (offset_target needed op) → IsEnding needed op
   one_last op i is last = record {
-    block = record { front = []; last = i; is = is; plain = tt; aimed = last.aimed };
+    block = record { front = []; last = i; is = is; plain = tt; targeted = last.targeted };
     placeable = subst (λ is. AllByRecursion IsPlaceable is) (sym is) (last.placeable, tt);
     terminator = last.terminator;
   }
@@ -138,7 +138,7 @@ module _ (needed : List ℕ) where
       let clear = load_imm_is_plain t 0 h refl in
       let last = load_imm_jump_last d link target k l in
       record {
-        block = record { front = load_imm t 0 ∷ []; last = load_imm_jump d link; is = is; plain = (clear.no_offset, tt); aimed = last.aimed };
+        block = record { front = load_imm t 0 ∷ []; last = load_imm_jump d link; is = is; plain = (clear.no_offset, tt); targeted = last.targeted };
         placeable = subst (λ is. AllByRecursion IsPlaceable is) (sym is) (of_plain (load_imm t 0) clear, (last.placeable, tt));
         terminator = last.terminator;
       }

@@ -6,7 +6,7 @@ use Rattle.runs.specs.Blocks.{begins_first, in_first, with_first, blocks}
 use Rattle.symbols.specs.Wanted.{Given}
 use Rattle.relocs.specs.Places.{CodePlace, has}
 use Rattle.lift_blocks.specs.Operations.{Operation, operation_at}
-use Rattle.lift_blocks.specs.Listed.{Lifted, IsLifted, aimed_places, ends_block, ends_at, starts, place}
+use Rattle.lift_blocks.specs.Listed.{Lifted, IsLifted, targeted_places, ends_block, ends_at, starts, place}
 use Rattle.lift_blocks.proofs.Named.{ends_renamed}
 use Rattle.lower.specs.Laws.{FrontGoesOn}
 
@@ -21,7 +21,7 @@ first_false false b e = refl
 -- if no block begins after it, the one before did not end
 not_ended : (given : Given) (ended : Bool) (ps : List CodePlace) → begins_first (starts given ended ps) ≡ false → ended ≡ false
 not_ended given ended [] e = absurd cc
-not_ended given ended (p ∷ ps) e = first_false ended (has (aimed_places given) p) e
+not_ended given ended (p ∷ ps) e = first_false ended (has (targeted_places given) p) e
 
 in_front : (op : Operation ℕ) (ws : List (List (Operation ℕ))) → ends_block op ≡ false → AllByRecursion FrontGoesOn ws → AllByRecursion FrontGoesOn (in_first op ws)
 in_front op [] e h = (tt, tt)

@@ -12,7 +12,7 @@ use Rattle.rv_decode.specs.declared.ops.RvOp.{RvOp}
 use Rattle.rv_decode.specs.declared.ops.RvOp.TheVariants as rv
 use Rattle.runs.specs.Machine.{Outcome, Next, does}
 use Rattle.runs.specs.Joined.{joined}
-use Rattle.runs.specs.Pieces.{NoCall, Lowers, AllLower}
+use Rattle.runs.specs.Segments.{NoCall, Lowers, AllLower}
 use Rattle.machine_state.specs.State.{State, register, with_register, IsState}
 use Rattle.machine_state.specs.Ends.{End}
 use Rattle.machine_state.proofs.Registers.{registers_stay}
@@ -25,11 +25,11 @@ use Rattle.pvm_machine.proofs.Opcodes as opcode
 use Rattle.jump_table.specs.Laws.{IsPlainInstr}
 use Rattle.lower.specs.Constants.{written, is_known, reads_known, begins_run, goes_on, IsRunOrOne, known_value, computed_plain, computed, value_of, constant_if, constant}
 use Rattle.lower.specs.Lowering.{lower_op, run_instrs}
-use Rattle.lower.specs.Cutting.{Aimed, aimed, instr_does}
+use Rattle.lower.specs.Cutting.{Targeted, targeted, instr_does}
 use Rattle.lower.proofs.Lists.{all_front, all_back}
 use Rattle.lower.proofs.Immediates.{word_fits, operand_is_signed}
 use Rattle.lower.proofs.Single.{and_no_more}
-use Rattle.lower.proofs.Beside.{aimed_alone}
+use Rattle.lower.proofs.Beside.{targeted_alone}
 use Rattle.lower.proofs.Encodable.{load_imm_is_plain, load_imm_64_is_plain}
 use Rattle.lower.proofs.Cuts.{AllGoOn, begins_with, goes_with, Part, Run, Alone, which_part}
 
@@ -171,12 +171,12 @@ module _ (needed : List ℕ) where
   run_does d op run s b h small g = rw (begins_does d 0 op s b) (rest_does d (computed 0 op) run s h small g)
 
   -- no operation of a run calls the host
-  rest_quiet : (d : ℕ) (ops : List (Operation ℕ)) (s : State) → AllGoOn d ops → NoCall (does (op_does needed) ops s)
-  rest_quiet d [] s h = tt
-  rest_quiet d (op ∷ ops) s h = rw (goes_does d op s h.0) (rest_quiet d ops (with_register s d (computed (register s d) op)) h.1)
+  rest_silent : (d : ℕ) (ops : List (Operation ℕ)) (s : State) → AllGoOn d ops → NoCall (does (op_does needed) ops s)
+  rest_silent d [] s h = tt
+  rest_silent d (op ∷ ops) s h = rw (goes_does d op s h.0) (rest_silent d ops (with_register s d (computed (register s d) op)) h.1)
 
-  run_quiet : (d : ℕ) (op : Operation ℕ) (run : List (Operation ℕ)) (s : State) → begins_run op ≡ Some d → AllGoOn d run → NoCall (does (op_does needed) (op ∷ run) s)
-  run_quiet d op run s b h = rw (begins_does d 0 op s b) (rest_quiet d run (with_register s d (computed 0 op)) h)
+  run_silent : (d : ℕ) (op : Operation ℕ) (run : List (Operation ℕ)) (s : State) → begins_run op ≡ Some d → AllGoOn d run → NoCall (does (op_does needed) (op ∷ run) s)
+  run_silent d op run s b h = rw (begins_does d 0 op s b) (rest_silent d run (with_register s d (computed 0 op)) h)
 
   -- and what the instruction of a constant does
   constant_does : (b : Bool) (target : Option ℕ) (d v : ℕ) (s : State) → ◌≡◌ {A = Outcome ℕ State End} (instr_does needed (record { instr = constant_if b d v; target = target }) s) (Next (with_register s d v))
@@ -185,18 +185,18 @@ module _ (needed : List ℕ) where
   constant_does false target d v s = rw opcode.load_imm_64 refl
 
   -- what is asked of a part: its instructions do what its operations do
-  abbrev pub part_aimed : Option ℕ → List (Operation ℕ) → List Aimed
-  part_aimed target part = aimed target (run_instrs needed part)
+  abbrev pub part_targeted : Option ℕ → List (Operation ℕ) → List Targeted
+  part_targeted target part = targeted target (run_instrs needed part)
 
   abbrev LowersPart : Option ℕ → List (Operation ℕ) → Type 0
-  LowersPart target part = Lowers (does (op_does needed)) (instr_does needed) IsState (part_aimed target) part
+  LowersPart target part = Lowers (does (op_does needed)) (instr_does needed) IsState (part_targeted target) part
 
   run_lowers : (target : Option ℕ) (d : ℕ) (op : Operation ℕ) (run : List (Operation ℕ)) → begins_run op ≡ Some d → AllGoOn d run → AllByRecursion FitsInstructions (op ∷ run) → LowersPart target (op ∷ run)
   run_lowers target d op run b h fits =
       let v = value_of 0 (op ∷ run) in
       let small = run_small op d fits.0 b in
-      let one : part_aimed target (op ∷ run) ≡ record { instr = constant d v; target = target } ∷ [] = ap (aimed target) (run_instr needed d op run b) in
-      let few : length (part_aimed target (op ∷ run)) ≡ 1 = ap length one in
+      let one : part_targeted target (op ∷ run) ≡ record { instr = constant d v; target = target } ∷ [] = ap (targeted target) (run_instr needed d op run b) in
+      let few : length (part_targeted target (op ∷ run)) ≡ 1 = ap length one in
       record {
         same = λ s g.
             ap (λ is. does (instr_does needed) is s) one
@@ -204,33 +204,33 @@ module _ (needed : List ℕ) where
             ∙ constant_does (nat_eq (sign_extend 32 v) v) target d v s
             ∙ sym (run_does d op run s b h small g);
         three = omega arith;
-        quiet = λ s. run_quiet d op run s b h;
+        silent = λ s. run_silent d op run s b h;
         stays = λ s g. rw (run_does d op run s b h small g) (registers_stay s d v g (value_fits 0 (op ∷ run) fits (omega arith)));
       }
 
-  alone_lowers : (target : Option ℕ) (op : Operation ℕ) → begins_run op ≡ None → Lowers (op_does needed) (instr_does needed) IsState (aimed_alone needed target) op → LowersPart target (op ∷ [])
+  alone_lowers : (target : Option ℕ) (op : Operation ℕ) → begins_run op ≡ None → Lowers (op_does needed) (instr_does needed) IsState (targeted_alone needed target) op → LowersPart target (op ∷ [])
   alone_lowers target op b h =
-      let one : part_aimed target (op ∷ []) ≡ aimed_alone needed target op = ap (aimed target) (alone_instrs needed op b) in
+      let one : part_targeted target (op ∷ []) ≡ targeted_alone needed target op = ap (targeted target) (alone_instrs needed op b) in
       record {
         same = λ s g. ap (λ is. does (instr_does needed) is s) one ∙ h.same s g ∙ sym (and_no_more (op_does needed op s));
         three = rw one h.three;
-        quiet = λ s. rw (and_no_more (op_does needed op s)) (h.quiet s);
+        silent = λ s. rw (and_no_more (op_does needed op s)) (h.silent s);
         stays = λ s g. rw (and_no_more (op_does needed op s)) (h.stays s g);
       }
 
-  lower_back : (target : Option ℕ) (a b : List (Operation ℕ)) → AllLower (op_does needed) (instr_does needed) IsState (aimed_alone needed target) (a ++ b) → AllLower (op_does needed) (instr_does needed) IsState (aimed_alone needed target) b
+  lower_back : (target : Option ℕ) (a b : List (Operation ℕ)) → AllLower (op_does needed) (instr_does needed) IsState (targeted_alone needed target) (a ++ b) → AllLower (op_does needed) (instr_does needed) IsState (targeted_alone needed target) b
   lower_back target [] b h = h
   lower_back target (x ∷ a) b h = lower_back target a b h.1
 
   -- each part of a cut, if each operation is lowered alone
   pub parts_lower : (target : Option ℕ) (parts : List (List (Operation ℕ))) → AllByRecursion IsRunOrOne parts → AllByRecursion FitsInstructions (joined parts)
-      → AllLower (op_does needed) (instr_does needed) IsState (aimed_alone needed target) (joined parts)
-      → AllLower (does (op_does needed)) (instr_does needed) IsState (part_aimed target) parts
+      → AllLower (op_does needed) (instr_does needed) IsState (targeted_alone needed target) (joined parts)
+      → AllLower (does (op_does needed)) (instr_does needed) IsState (part_targeted target) parts
   parts_lower target [] each fits h = tt
   parts_lower target (part ∷ parts) each fits h = by_part part (which_part part each.0) fits h (λ f l. parts_lower target parts each.1 f l)
     where
-      by_part : (part : List (Operation ℕ)) → Part part → AllByRecursion FitsInstructions (part ++ joined parts) → AllLower (op_does needed) (instr_does needed) IsState (aimed_alone needed target) (part ++ joined parts)
-          → (AllByRecursion FitsInstructions (joined parts) → AllLower (op_does needed) (instr_does needed) IsState (aimed_alone needed target) (joined parts) → AllLower (does (op_does needed)) (instr_does needed) IsState (part_aimed target) parts)
-          → AllLower (does (op_does needed)) (instr_does needed) IsState (part_aimed target) (part ∷ parts)
+      by_part : (part : List (Operation ℕ)) → Part part → AllByRecursion FitsInstructions (part ++ joined parts) → AllLower (op_does needed) (instr_does needed) IsState (targeted_alone needed target) (part ++ joined parts)
+          → (AllByRecursion FitsInstructions (joined parts) → AllLower (op_does needed) (instr_does needed) IsState (targeted_alone needed target) (joined parts) → AllLower (does (op_does needed)) (instr_does needed) IsState (part_targeted target) parts)
+          → AllLower (does (op_does needed)) (instr_does needed) IsState (part_targeted target) (part ∷ parts)
       by_part _ (Alone op b) fits h rest = (alone_lowers target op b h.0, rest fits.1 h.1)
       by_part _ (Run d op run b go) fits h rest = (run_lowers target d op run b go (all_front FitsInstructions (op ∷ run) (joined parts) fits), rest (all_back FitsInstructions (op ∷ run) (joined parts) fits) (lower_back target (op ∷ run) (joined parts) h))

@@ -12,7 +12,7 @@ use Rattle.rv_decode.specs.declared.ops.Reg.TheVariants.{Zero, R}
 use Rattle.rv_decode.specs.Operations.{IsSigned}
 use Rattle.runs.specs.Machine.{Outcome, Next, Jump, Call, does}
 use Rattle.runs.specs.Numbers.{halt_address, named, to_named, jump_by}
-use Rattle.runs.specs.Pieces.{NoCall, GoodOutcome}
+use Rattle.runs.specs.Segments.{NoCall, GoodOutcome}
 use Rattle.machine_state.specs.State.{State, register, with_register, IsState}
 use Rattle.machine_state.specs.Ends.{End, halt, panic}
 use Rattle.machine_state.specs.Heap as heap
@@ -25,8 +25,8 @@ use Rattle.pvm_ops.specs.declared.instr.Instr.{Instr}
 use Rattle.pvm_machine.specs.Effect.{effect}
 use Rattle.pvm_machine.proofs.Opcodes as opcode
 use Rattle.lower.specs.Instructions.{rro, rxo, ecalli, sbrk}
-use Rattle.lower.specs.Lowering.{branch_opcode, branch_zero_opcode, zero_branch_opcode, jump_if, jump_with, jump_to, jump_by_register, clears_if, pair, lower_op, target_if, aim_of}
-use Rattle.lower.specs.Cutting.{or_zero, aimed, instr_does}
+use Rattle.lower.specs.Lowering.{branch_opcode, branch_zero_opcode, zero_branch_opcode, jump_if, jump_with, jump_to, jump_by_register, clears_if, pair, lower_op, target_if, offset_target}
+use Rattle.lower.specs.Cutting.{or_zero, targeted, instr_does}
 use Rattle.lift_blocks.specs.Fits.{IsLink}
 use Rattle.lower.specs.Laws.{AllAreLowered, CallsAreLowered}
 use Rattle.lower.proofs.Single.{and_no_more, LowersOp}
@@ -54,21 +54,21 @@ panics_same s (R d) x = refl
 module _ (needed : List ℕ) where
   -- an operation with one instruction
   lowers_alone : (op : Operation ℕ) (i : Instr) → lower_op needed op ≡ i ∷ []
-      → ((s : State) → IsState s → ◌≡◌ {A = Outcome ℕ State End} (effect needed (or_zero (aim_of needed op)) i s) (op_does needed op s))
+      → ((s : State) → IsState s → ◌≡◌ {A = Outcome ℕ State End} (effect needed (or_zero (offset_target needed op)) i s) (op_does needed op s))
       → ((s : State) → NoCall (op_does needed op s)) → ((s : State) → IsState s → GoodOutcome IsState (op_does needed op s)) → LowersOp needed op
-  lowers_alone op i is same quiet stays =
-      let few : length (aimed (aim_of needed op) (i ∷ [])) ≤ 3 = omega arith in
+  lowers_alone op i is same silent stays =
+      let few : length (targeted (offset_target needed op) (i ∷ [])) ≤ 3 = omega arith in
       record {
-        same = λ s g. ap (λ is. does (instr_does needed) (aimed (aim_of needed op) is) s) is ∙ and_no_more (effect needed (or_zero (aim_of needed op)) i s) ∙ same s g;
+        same = λ s g. ap (λ is. does (instr_does needed) (targeted (offset_target needed op) is) s) is ∙ and_no_more (effect needed (or_zero (offset_target needed op)) i s) ∙ same s g;
         three = rw is few;
-        quiet = quiet;
+        silent = silent;
         stays = stays;
       }
 
   -- a branch calls nothing, and keeps the state
-  choice_quiet : (b : Bool) (target : ℕ) (s : State) → NoCall {Target = ℕ} {Data = State} {End = End} (if b then Jump target s else Next s)
-  choice_quiet true target s = tt
-  choice_quiet false target s = tt
+  choice_silent : (b : Bool) (target : ℕ) (s : State) → NoCall {Target = ℕ} {Data = State} {End = End} (if b then Jump target s else Next s)
+  choice_silent true target s = tt
+  choice_silent false target s = tt
 
   choice_stays : (b : Bool) (target : ℕ) (s : State) → IsState s → GoodOutcome {Target = ℕ} {Data = State} {End = End} IsState (if b then Jump target s else Next s)
   choice_stays true target s g = g
@@ -109,10 +109,10 @@ module _ (needed : List ℕ) where
   known_does false target s = rw opcode.fallthrough refl
 
   lowers_branch : (cond : Cond) (rs1 rs2 : Reg) (target : ℕ) → LowersOp needed (Branch cond rs1 rs2 target)
-  lowers_branch cond Zero Zero target = lowers_alone (Branch cond Zero Zero target) (jump_if (holds (of_cond cond) 0 0)) refl (λ s g. known_does (holds (of_cond cond) 0 0) target s) (λ s. choice_quiet (holds (of_cond cond) 0 0) target s) (λ s g. choice_stays (holds (of_cond cond) 0 0) target s g)
-  lowers_branch cond Zero (R b) target = lowers_alone (Branch cond Zero (R b) target) (rxo (zero_branch_opcode cond) b 0) refl (λ s g. zero_branch_does cond b target s) (λ s. choice_quiet (holds (of_cond cond) 0 (register s b)) target s) (λ s g. choice_stays (holds (of_cond cond) 0 (register s b)) target s g)
-  lowers_branch cond (R a) Zero target = lowers_alone (Branch cond (R a) Zero target) (rxo (branch_zero_opcode cond) a 0) refl (λ s g. branch_zero_does cond a target s) (λ s. choice_quiet (holds (of_cond cond) (register s a) 0) target s) (λ s g. choice_stays (holds (of_cond cond) (register s a) 0) target s g)
-  lowers_branch cond (R a) (R b) target = lowers_alone (Branch cond (R a) (R b) target) (rro (branch_opcode cond) a b) refl (λ s g. branch_does cond a b target s) (λ s. choice_quiet (holds (of_cond cond) (register s a) (register s b)) target s) (λ s g. choice_stays (holds (of_cond cond) (register s a) (register s b)) target s g)
+  lowers_branch cond Zero Zero target = lowers_alone (Branch cond Zero Zero target) (jump_if (holds (of_cond cond) 0 0)) refl (λ s g. known_does (holds (of_cond cond) 0 0) target s) (λ s. choice_silent (holds (of_cond cond) 0 0) target s) (λ s g. choice_stays (holds (of_cond cond) 0 0) target s g)
+  lowers_branch cond Zero (R b) target = lowers_alone (Branch cond Zero (R b) target) (rxo (zero_branch_opcode cond) b 0) refl (λ s g. zero_branch_does cond b target s) (λ s. choice_silent (holds (of_cond cond) 0 (register s b)) target s) (λ s g. choice_stays (holds (of_cond cond) 0 (register s b)) target s g)
+  lowers_branch cond (R a) Zero target = lowers_alone (Branch cond (R a) Zero target) (rxo (branch_zero_opcode cond) a 0) refl (λ s g. branch_zero_does cond a target s) (λ s. choice_silent (holds (of_cond cond) (register s a) 0) target s) (λ s g. choice_stays (holds (of_cond cond) (register s a) 0) target s g)
+  lowers_branch cond (R a) (R b) target = lowers_alone (Branch cond (R a) (R b) target) (rro (branch_opcode cond) a b) refl (λ s g. branch_does cond a b target s) (λ s. choice_silent (holds (of_cond cond) (register s a) (register s b)) target s) (λ s g. choice_stays (holds (of_cond cond) (register s a) (register s b)) target s g)
 
   -- a jump with a link
   link_does : (rd : Reg) (link target : ℕ) (s : State) → ◌≡◌ {A = Outcome ℕ State End} (effect needed target (jump_with rd link) s) (Jump target (with_value s rd link))
@@ -158,22 +158,22 @@ module _ (needed : List ℕ) where
       (λ s g. jump_stays needed ((register s a + word_of imm) % 2 ^ 32) (with_value s rd link) (value_stays s rd link g small))
 
   -- a pair
-  pair_does : (temp rd : Reg) (link target : ℕ) (s : State) → ◌≡◌ {A = Outcome ℕ State End} (does (instr_does needed) (aimed (Some target) (pair temp rd link)) s) (Jump target (with_value (with_value s temp 0) rd link))
+  pair_does : (temp rd : Reg) (link target : ℕ) (s : State) → ◌≡◌ {A = Outcome ℕ State End} (does (instr_does needed) (targeted (Some target) (pair temp rd link)) s) (Jump target (with_value (with_value s temp 0) rd link))
   unfolding effect
   pair_does Zero rd link target s = and_no_more (effect needed target (jump_with rd link) s) ∙ link_does rd link target s
   pair_does (R t) Zero link target s = rw opcode.load_imm_jump refl
   pair_does (R t) (R d) link target s = by_test (nat_eq t d) refl
     where
-      by_test : (b : Bool) → nat_eq t d ≡ b → ◌≡◌ {A = Outcome ℕ State End} (does (instr_does needed) (aimed (Some target) (clears_if b t d link)) s) (Jump target (with_register (with_register s t 0) d link))
+      by_test : (b : Bool) → nat_eq t d ≡ b → ◌≡◌ {A = Outcome ℕ State End} (does (instr_does needed) (targeted (Some target) (clears_if b t d link)) s) (Jump target (with_register (with_register s t 0) d link))
       by_test true e = let same : t ≡ d = eqb-true t d e in rw (same, opcode.load_imm_jump, set-set s.registers d 0 link) refl
       by_test false e = rw (opcode.load_imm, opcode.load_imm_jump) refl
 
-  pair_few : (temp rd : Reg) (link target : ℕ) → length (aimed (Some target) (pair temp rd link)) ≤ 3
+  pair_few : (temp rd : Reg) (link target : ℕ) → length (targeted (Some target) (pair temp rd link)) ≤ 3
   pair_few Zero rd link target = omega arith
   pair_few (R t) Zero link target = omega arith
   pair_few (R t) (R d) link target = by_test (nat_eq t d)
     where
-      by_test : (b : Bool) → length (aimed (Some target) (clears_if b t d link)) ≤ 3
+      by_test : (b : Bool) → length (targeted (Some target) (clears_if b t d link)) ≤ 3
       by_test true = omega arith
       by_test false = omega arith
 
@@ -181,7 +181,7 @@ module _ (needed : List ℕ) where
   lowers_pair temp rd link target small = record {
     same = λ s g. pair_does temp rd link target s;
     three = pair_few temp rd link target;
-    quiet = λ s. tt;
+    silent = λ s. tt;
     stays = λ s g. value_stays (with_value s temp 0) rd link (value_stays s temp 0 g (zero_is_link temp)) small;
   }
 

@@ -21,7 +21,7 @@ pub mod Targets
 pub mod Calls
 pub mod Well
 pub mod Plain
-pub mod Aims
+pub mod JumpsToSegments
 pub mod FirstBlock
 pub mod Numbering
 pub mod Building

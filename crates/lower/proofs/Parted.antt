@@ -3,7 +3,7 @@ use Rattle.std.proofs.Common.{◌≡◌, ℕ, ◌+◌, ◌<◌, ◌≤◌, List,
 use Rattle.std.specs.List.{AllByRecursion}
 use Rattle.runs.specs.Machine.{Outcome, Next, Jump, Call, Ends, and_then, does, one_more, begun}
 use Rattle.runs.specs.Joined.{joined}
-use Rattle.runs.specs.Pieces.{NoCall, Carries, AllLower}
+use Rattle.runs.specs.Segments.{NoCall, Implements, AllLower}
 use Rattle.runs.proofs.Straight.{more, does_append, begun_append, whole}
 use Rattle.runs.proofs.Walk.{begun_some}
 
@@ -35,24 +35,24 @@ module _ {I Target Data End : Type 0} (act : I → Data → Outcome Target Data 
       let le = one_for_some (does act part d) (begun (does act) parts) (begun act (joined parts)) (begun act part d) (begun_some act part d h.0) (λ e. begun_parts parts e h.1) in
       omega arith
 
-  quiet_then : (o : Outcome Target Data End) (f : Data → Outcome Target Data End) → NoCall o → ((d : Data) → NoCall (f d)) → NoCall (and_then o f)
-  quiet_then (Next d) f h q = q d
-  quiet_then (Jump t d) f h q = tt
-  quiet_then (Call n d) f h q = absurd h
-  quiet_then (Ends x) f h q = tt
+  silent_then : (o : Outcome Target Data End) (f : Data → Outcome Target Data End) → NoCall o → ((d : Data) → NoCall (f d)) → NoCall (and_then o f)
+  silent_then (Next d) f h q = q d
+  silent_then (Jump t d) f h q = tt
+  silent_then (Call n d) f h q = absurd h
+  silent_then (Ends x) f h q = tt
 
 module _ {Op Instr Target Data End : Type 0} (op_does : Op → Data → Outcome Target Data End) (instr_does : Instr → Data → Outcome Target Data End) (good : Data → Type 0) (lower : Op → List Instr) where
-  quiet_all : (ops : List Op) → AllLower op_does instr_does good lower ops → (d : Data) → NoCall (does op_does ops d)
-  quiet_all [] h d = tt
-  quiet_all (op ∷ ops) h d = quiet_then op_does (op_does op d) (does op_does ops) (h.0.quiet d) (λ e. quiet_all ops h.1 e)
+  silent_all : (ops : List Op) → AllLower op_does instr_does good lower ops → (d : Data) → NoCall (does op_does ops d)
+  silent_all [] h d = tt
+  silent_all (op ∷ ops) h d = silent_then op_does (op_does op d) (does op_does ops) (h.0.silent d) (λ e. silent_all ops h.1 e)
 
-  pub carries_joined : (parts : List (List Op)) (instrs : List Instr) → AllByRecursion (λ part. 0 < length part) parts → AllLower op_does instr_does good lower (joined parts)
-      → Carries (does op_does) instr_does good (record { ops = parts; instrs = instrs }) → Carries op_does instr_does good (record { ops = joined parts; instrs = instrs })
-  carries_joined parts instrs each lowers h = record {
+  pub implements_joined : (parts : List (List Op)) (instrs : List Instr) → AllByRecursion (λ part. 0 < length part) parts → AllLower op_does instr_does good lower (joined parts)
+      → Implements (does op_does) instr_does good (record { ops = parts; instrs = instrs }) → Implements op_does instr_does good (record { ops = joined parts; instrs = instrs })
+  implements_joined parts instrs each lowers h = record {
     some = h.some;
     same = λ d g. h.same d g ∙ does_parts op_does parts d;
     bound = λ d g. (let le = h.bound d g in let most = begun_parts op_does parts d each in omega arith);
-    whole_ops = λ d g. whole op_does (joined parts) d (quiet_all (joined parts) lowers d);
+    whole_ops = λ d g. whole op_does (joined parts) d (silent_all (joined parts) lowers d);
     whole_instrs = λ d g. rw (does_parts op_does parts d) at (h.whole_instrs d g);
     stays = λ d g. rw (does_parts op_does parts d) at (h.stays d g);
   }

@@ -13,12 +13,12 @@ use Rattle.pvm_ops.specs.BlockList.{Block}
 use Rattle.jump_table.specs.Assembly.{instrs_of}
 use Rattle.blob_check.specs.Starts.{is_terminator}
 use Rattle.jump_table.specs.Laws.{IsPlaceable, IsBlock}
-use Rattle.lower.specs.Lowering.{aim_of_last, block_instrs, lower_block, lowered_blocks}
+use Rattle.lower.specs.Lowering.{last_offset_target, block_instrs, lower_block, lowered_blocks}
 use Rattle.lower.specs.Laws.{IsPlacedBlock, LoweredIsPlaceable}
 use Rattle.lower.proofs.Lists.{all_at, all_append, from_map}
-use Rattle.lower.proofs.Well.{IsWellBlock, blocks_are_well, all_fit, last_stands}
+use Rattle.lower.proofs.Well.{IsWellBlock, blocks_are_well, all_fit, last_is_below}
 use Rattle.lower.proofs.Blocks.{blocks_are_placeable}
-use Rattle.lower.proofs.Begin.{blocks_stand}
+use Rattle.lower.proofs.Begin.{blocks_are_there}
 
 -- each instruction of the blocks can be placed
 all_placeable : (lifted : Lifted) (ws : List (List (Operation ℕ))) → AllByRecursion (IsWellBlock lifted) ws → AllByRecursion IsPlaceable (joined (map (λ b. b.instrs) (map (lower_block lifted.needed lifted.begins) ws)))
@@ -52,7 +52,7 @@ lowered_is_placeable given lifted h = (record { instrs = instrs; blocks = each; 
         let from = from_map (lower_block lifted.needed lifted.begins) all block b e in
         (from.x, from.is, all_at (IsWellBlock lifted) all block from.x (blocks_are_well given lifted h) from.there)
 
-    own : (ops : List (Operation ℕ)) → IsWellBlock lifted ops → IsPlacedBlock (block_instrs lifted.needed ops) (option_map (block_of lifted.begins) (aim_of_last lifted.needed ops))
+    own : (ops : List (Operation ℕ)) → IsWellBlock lifted ops → IsPlacedBlock (block_instrs lifted.needed ops) (option_map (block_of lifted.begins) (last_offset_target lifted.needed ops))
     own ops w = blocks_are_placeable lifted.needed lifted.begins ops (all_fit lifted ops w.each) w.front w.some
 
     each : (block : ℕ) (b : Block) → slice_get bs block ≡ Some b → IsBlock b
@@ -66,24 +66,24 @@ lowered_is_placeable given lifted h = (record { instrs = instrs; blocks = each; 
         rw (← same) placed.terminator
 
     -- the block of an operation is one of them
-    stands : (t : ℕ) → t < length lifted.places → block_of lifted.begins t < length bs
-    stands t lt = let b = blocks_stand given lifted h t lt in slice_get_within bs (block_of lifted.begins t) b.0 b.1
+    is_below : (t : ℕ) → t < length lifted.places → block_of lifted.begins t < length bs
+    is_below t lt = let b = blocks_are_there given lifted h t lt in slice_get_within bs (block_of lifted.begins t) b.0 b.1
 
     of_some : (o : Option ℕ) (target : ℕ) → ((t : ℕ) → o ≡ Some t → t < length lifted.places) → option_map (block_of lifted.begins) o ≡ Some target → target < length bs
     of_some None target each e = absurd cc
-    of_some (Some t) target each e = let same : block_of lifted.begins t ≡ target = cc in rw (← same) (stands t (each t refl))
+    of_some (Some t) target each e = let same : block_of lifted.begins t ≡ target = cc in rw (← same) (is_below t (each t refl))
 
     targets : (block target : ℕ) (b : Block) → slice_get bs block ≡ Some b → b.target ≡ Some target → target < length bs
     targets block target b e f =
         let there = well block b e in
-        of_some (aim_of_last lifted.needed there.0) target (λ t g. last_stands lifted there.0 t there.2.each g) (ap (λ b. b.target) there.1 ∙ f)
+        of_some (last_offset_target lifted.needed there.0) target (λ t g. last_is_below lifted there.0 t there.2.each g) (ap (λ b. b.target) there.1 ∙ f)
 
     entries : (entry block : ℕ) → slice_get (map (block_of lifted.begins) lifted.entries) entry ≡ Some block → block < length bs
     entries entry block e =
         let from = from_map (block_of lifted.begins) lifted.entries entry block e in
-        rw (← from.is) (stands from.x (h.entries_exist entry from.x from.there))
+        rw (← from.is) (is_below from.x (h.entries_exist entry from.x from.there))
 
     needed : (place block : ℕ) → slice_get (map (block_of lifted.begins) lifted.needed) place ≡ Some block → block < length bs
     needed place block e =
         let from = from_map (block_of lifted.begins) lifted.needed place block e in
-        rw (← from.is) (stands from.x (h.needed_exist place from.x from.there))
+        rw (← from.is) (is_below from.x (h.needed_exist place from.x from.there))

@@ -24,8 +24,8 @@ with_target_if None block = block
 with_target_if (Some target) block = with_target target block
 
 -- the list with a target of its last block, if there is one
-abbrev pub aimed_at : Option ℕ → BlockList → BlockList
-aimed_at target list = record list { blocks = change_last (with_target_if target) list.blocks }
+abbrev pub targeted_at : Option ℕ → BlockList → BlockList
+targeted_at target list = record list { blocks = change_last (with_target_if target) list.blocks }
 
 -- the list with one more block at its end
 abbrev pub with_block : Block → BlockList → BlockList

@@ -7,7 +7,7 @@ use Rattle.rv_decode.specs.declared.ops.RvOp.TheVariants as rv
 use Rattle.rv_decode.specs.Operations.{IsOp}
 use Rattle.runs.specs.Machine.{Outcome, Call, does}
 use Rattle.runs.specs.Blocks.{block_of}
-use Rattle.runs.specs.Pieces.{Cut, Carries, Lowers, all_ops, all_instrs, op_place, instr_place}
+use Rattle.runs.specs.Segments.{Cut, Implements, Lowers, all_ops, all_instrs, op_place, instr_place}
 use Rattle.machine_state.specs.State.{State, IsState}
 use Rattle.machine_state.specs.Ends.{End}
 use Rattle.symbols.specs.Wanted.{Given}
@@ -23,8 +23,8 @@ use Rattle.pvm_ops.specs.BlockList.{Block}
 use Rattle.pvm_machine.specs.Effect.{effect}
 use Rattle.lower.specs.Plain.{IsLowerable}
 use Rattle.lower.specs.Constants.{IsCutAtRuns, runs}
-use Rattle.lower.specs.Lowering.{lower_op, aim_of, aim_of_last, is_call, block_instrs, lowered_blocks}
-use Rattle.lower.specs.Cutting.{aimed_op, block_pieces, pieces, first_piece, instr_does, instr_places}
+use Rattle.lower.specs.Lowering.{lower_op, offset_target, last_offset_target, is_call, block_instrs, lowered_blocks}
+use Rattle.lower.specs.Cutting.{targeted_op, block_segments, segments, first_segment, instr_does, instr_places}
 
 -- the operation of a word can be lowered alone, unless it is a jump or a branch
 abbrev pub IsLowerableUnlessJump : RvOp → Type 0
@@ -46,16 +46,16 @@ HasEffect op is =
 abbrev pub OperationsAreLowered : Type 0
 OperationsAreLowered =
     (needed : List ℕ) (op : RvOp) → IsLowerable op
-    → Lowers (op_does needed) (instr_does needed) IsState (aimed_op needed) (Plain op)
+    → Lowers (op_does needed) (instr_does needed) IsState (targeted_op needed) (Plain op)
 
 -- The instructions of an operation that is no call of the host, with its target, do what it does, are three at most, and
 -- keep the state good.
 abbrev pub AllAreLowered : Type 0
-AllAreLowered = (needed : List ℕ) (op : Operation ℕ) → FitsInstructions op → is_call op ≡ false → Lowers (op_does needed) (instr_does needed) IsState (aimed_op needed) op
+AllAreLowered = (needed : List ℕ) (op : Operation ℕ) → FitsInstructions op → is_call op ≡ false → Lowers (op_does needed) (instr_does needed) IsState (targeted_op needed) op
 
 -- and that of a call makes the same call
 abbrev pub CallsAreLowered : Type 0
-CallsAreLowered = (needed : List ℕ) (number : ℕ) (s : State) → does (instr_does needed) (aimed_op needed (HostCall number)) s ≡ Call number s
+CallsAreLowered = (needed : List ℕ) (number : ℕ) (s : State) → does (instr_does needed) (targeted_op needed (HostCall number)) s ≡ Call number s
 
 -- Operations have one cut into maximal runs, by which the instructions of a block are made.
 abbrev pub RunsAreMaximal : Type 0
@@ -63,7 +63,7 @@ RunsAreMaximal = (ops : List (Operation ℕ)) → IsCutAtRuns ops (runs ops) × 
 
 -- The instructions of an operation that ends its block: the last ends it, with an offset where the operation has a target.
 pub record IsEnding (needed : List ℕ) (op : Operation ℕ) : Type 0 where
-  pub block : IsBlock (record { instrs = lower_op needed op; target = aim_of needed op })
+  pub block : IsBlock (record { instrs = lower_op needed op; target = offset_target needed op })
   pub placeable : AllByRecursion IsPlaceable (lower_op needed op)
   pub terminator : is_terminator block.last.op ≡ true
 
@@ -83,10 +83,10 @@ CallIsFirst (op ∷ ops) = AllByRecursion (λ x. is_call x ≡ false) ops × (is
 
 -- A block of operations is implemented by its instructions, also if it ends with a branch or a jump, or begins with a
 -- host call.
-abbrev pub BlocksAreCarried : Type 0
-BlocksAreCarried =
+abbrev pub BlocksAreImplemented : Type 0
+BlocksAreImplemented =
     (needed : List ℕ) (ops : List (Operation ℕ)) → AllByRecursion FitsInstructions ops → CallIsFirst ops → FrontGoesOn ops → 0 < length ops
-    → AllByRecursion (Carries (op_does needed) (instr_does needed) IsState) (block_pieces needed ops)
+    → AllByRecursion (Implements (op_does needed) (instr_does needed) IsState) (block_segments needed ops)
 
 -- a block that can be placed, whose last instruction ends it
 pub record IsPlacedBlock (instrs : List Instr) (target : Option ℕ) : Type 0 where
@@ -98,25 +98,25 @@ pub record IsPlacedBlock (instrs : List Instr) (target : Option ℕ) : Type 0 wh
 abbrev pub BlocksArePlaceable : Type 0
 BlocksArePlaceable =
     (needed : List ℕ) (begins : List Bool) (ops : List (Operation ℕ)) → AllByRecursion FitsInstructions ops → FrontGoesOn ops → 0 < length ops
-    → IsPlacedBlock (block_instrs needed ops) (option_map (block_of begins) (aim_of_last needed ops))
+    → IsPlacedBlock (block_instrs needed ops) (option_map (block_of begins) (last_offset_target needed ops))
 
 -- Each block's instructions do what its operations do, at most four begun for each, and jumps lead to blocks.
 abbrev pub LoweredIsCut : Type 0
 LoweredIsCut =
     (given : Given) (lifted : Lifted) → IsLifted given lifted
-    → Cut (op_does lifted.needed) (instr_does lifted.needed) IsState (pieces lifted) (λ t. t) (instr_places lifted)
+    → Cut (op_does lifted.needed) (instr_does lifted.needed) IsState (segments lifted) (λ t. t) (instr_places lifted)
 
 -- the blocks together are the operations in code order
 abbrev pub BlocksAreAll : Type 0
-BlocksAreAll = (given : Given) (lifted : Lifted) → IsLifted given lifted → all_ops (pieces lifted) ≡ lifted.ops
+BlocksAreAll = (given : Given) (lifted : Lifted) → IsLifted given lifted → all_ops (segments lifted) ≡ lifted.ops
 
 -- an entry begins a block
 abbrev pub EntriesBegin : Type 0
-EntriesBegin = (given : Given) (lifted : Lifted) → IsLifted given lifted → (entry t : ℕ) → slice_get lifted.entries entry ≡ Some t → op_place (pieces lifted) (first_piece lifted (block_of lifted.begins t)) ≡ t
+EntriesBegin = (given : Given) (lifted : Lifted) → IsLifted given lifted → (entry t : ℕ) → slice_get lifted.entries entry ≡ Some t → op_place (segments lifted) (first_segment lifted (block_of lifted.begins t)) ≡ t
 
 -- each operation is in a block of the list
-abbrev pub BlocksStand : Type 0
-BlocksStand = (given : Given) (lifted : Lifted) → IsLifted given lifted → (t : ℕ) → t < length lifted.places → (b : Block) × (slice_get (lowered_blocks lifted).blocks (block_of lifted.begins t) ≡ Some b)
+abbrev pub BlocksAreThere : Type 0
+BlocksAreThere = (given : Given) (lifted : Lifted) → IsLifted given lifted → (t : ℕ) → t < length lifted.places → (b : Block) × (slice_get (lowered_blocks lifted).blocks (block_of lifted.begins t) ≡ Some b)
 
 -- an instruction, with a block for the operation that is its target
 pub record InBlock : Type 0 where
@@ -127,11 +127,11 @@ pub record InBlock : Type 0 where
 abbrev pub SameInstrs : Type 0
 SameInstrs =
     (lengths : List ℕ) (lifted : Lifted)
-    → map {B = InBlock} (λ i. record { instr = i.instr; target = option_map (block_of lifted.begins) i.target }) (all_instrs (pieces lifted))
+    → map {B = InBlock} (λ i. record { instr = i.instr; target = option_map (block_of lifted.begins) i.target }) (all_instrs (segments lifted))
     ≡ map {B = InBlock} (λ m. record { instr = m.instr; target = m.target }) (members_of lengths (lowered_blocks lifted))
 
 abbrev pub SamePlaces : Type 0
-SamePlaces = (lifted : Lifted) (block : ℕ) → instr_place (pieces lifted) (first_piece lifted block) ≡ first_of (lowered_blocks lifted) block
+SamePlaces = (lifted : Lifted) (block : ℕ) → instr_place (segments lifted) (first_segment lifted block) ≡ first_of (lowered_blocks lifted) block
 
 -- the list of blocks can be placed, and each block's last instruction ends it
 abbrev pub LoweredIsPlaceable : Type 0

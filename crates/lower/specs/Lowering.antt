@@ -9,7 +9,7 @@ use Rattle.rv_decode.specs.declared.ops.Reg.{Reg}
 use Rattle.rv_decode.specs.declared.ops.Reg.TheVariants.{Zero, R}
 use Rattle.runs.specs.Blocks.{blocks, block_of}
 use Rattle.runs.specs.Numbers.{named}
-use Rattle.runs.specs.Pieces.{lowered}
+use Rattle.runs.specs.Segments.{lowered}
 use Rattle.lift_blocks.specs.Operations.{Operation, Plain, Branch, Jal, Jalr, Pair, HostCall, Sbrk}
 use Rattle.lift_blocks.specs.Arithmetic.{of_cond}
 use Rattle.lift_blocks.specs.Listed.{Lifted, ends_block}
@@ -109,28 +109,28 @@ abbrev pub target_if : Bool → ℕ → Option ℕ
 target_if true target = Some target
 target_if false target = None
 
-abbrev pub branch_aim : Cond → Reg → Reg → ℕ → Option ℕ
-branch_aim cond Zero Zero target = target_if (holds (of_cond cond) 0 0) target
-branch_aim cond (R a) Zero target = Some target
-branch_aim cond Zero (R b) target = Some target
-branch_aim cond (R a) (R b) target = Some target
+abbrev pub branch_offset_target : Cond → Reg → Reg → ℕ → Option ℕ
+branch_offset_target cond Zero Zero target = target_if (holds (of_cond cond) 0 0) target
+branch_offset_target cond (R a) Zero target = Some target
+branch_offset_target cond Zero (R b) target = Some target
+branch_offset_target cond (R a) (R b) target = Some target
 
 -- the target to which the offset of an operation's last instruction leads
-abbrev pub aim_of : List ℕ → Operation ℕ → Option ℕ
-aim_of needed (Plain op) = None
-aim_of needed (Branch cond rs1 rs2 target) = branch_aim cond rs1 rs2 target
-aim_of needed (Jal rd link target) = Some target
-aim_of needed (Jalr rd Zero imm link) = named needed (word_of imm % 2 ^ 32)
-aim_of needed (Jalr rd (R a) imm link) = None
-aim_of needed (Pair temp rd link target) = Some target
-aim_of needed (HostCall number) = None
-aim_of needed Sbrk = None
+abbrev pub offset_target : List ℕ → Operation ℕ → Option ℕ
+offset_target needed (Plain op) = None
+offset_target needed (Branch cond rs1 rs2 target) = branch_offset_target cond rs1 rs2 target
+offset_target needed (Jal rd link target) = Some target
+offset_target needed (Jalr rd Zero imm link) = named needed (word_of imm % 2 ^ 32)
+offset_target needed (Jalr rd (R a) imm link) = None
+offset_target needed (Pair temp rd link target) = Some target
+offset_target needed (HostCall number) = None
+offset_target needed Sbrk = None
 
 -- the target of a block is that of its last operation
-abbrev pub aim_of_last : List ℕ → List (Operation ℕ) → Option ℕ
-aim_of_last needed [] = None
-aim_of_last needed (op ∷ []) = aim_of needed op
-aim_of_last needed (op ∷ next ∷ ops) = aim_of_last needed (next ∷ ops)
+abbrev pub last_offset_target : List ℕ → List (Operation ℕ) → Option ℕ
+last_offset_target needed [] = None
+last_offset_target needed (op ∷ []) = offset_target needed op
+last_offset_target needed (op ∷ next ∷ ops) = last_offset_target needed (next ∷ ops)
 
 -- whether an operation calls the host
 abbrev pub is_call : Operation ℕ → Bool
@@ -162,7 +162,7 @@ block_instrs needed ops = part_instrs needed ops ++ tail_of ops
 
 -- its target as the block that holds it
 abbrev pub lower_block : List ℕ → List Bool → List (Operation ℕ) → Block
-lower_block needed begins ops = record { instrs = block_instrs needed ops; target = option_map (block_of begins) (aim_of_last needed ops) }
+lower_block needed begins ops = record { instrs = block_instrs needed ops; target = option_map (block_of begins) (last_offset_target needed ops) }
 
 -- the blocks of the operations in code order, with the blocks of the entries and of the address map
 abbrev pub lowered_blocks : Lifted → BlockList

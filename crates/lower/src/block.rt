@@ -5,9 +5,9 @@ ghost use Rattle.std.specs.Option.{option_map};
 ghost use Rattle.runs.specs.Blocks.{block_of};
 ghost use Rattle.lift_blocks.specs.Kept.{operation_of};
 ghost use Rattle.lift_blocks.specs.Listed.{ends_block, target_of};
-ghost use Rattle.lower.specs.Building.{AreBlockNumbers, aimed_at, extended, one_if, with_block};
+ghost use Rattle.lower.specs.Building.{AreBlockNumbers, targeted_at, extended, one_if, with_block};
 ghost use Rattle.lower.specs.Constants.{runs};
-ghost use Rattle.lower.specs.Lowering.{aim_of, lower_block, part_instrs, run_instrs, tail_if};
+ghost use Rattle.lower.specs.Lowering.{offset_target, lower_block, part_instrs, run_instrs, tail_if};
 ghost use Rattle.lower.specs.Plain.{listed};
 
 use crate::constants::{begins_run, constant, run_on};
@@ -92,7 +92,7 @@ fn end_block(
     requires some { 0 < length blocks.old.blocks }
     requires numbers { AreBlockNumbers lifted.now numbers.now }
     requires target { IfSome (target_of (operation_of last.now)) (λ t. t < length lifted.now.ops) }
-    ensures { OnOk result (blocks.new ≡ aimed_at (option_map (block_of lifted.now.begins) (aim_of lifted.now.needed (operation_of last.now))) (extended (tail_if (ends_block (operation_of last.now))) blocks.old)) }
+    ensures { OnOk result (blocks.new ≡ targeted_at (option_map (block_of lifted.now.begins) (offset_target lifted.now.needed (operation_of last.now))) (extended (tail_if (ends_block (operation_of last.now))) blocks.old)) }
 {
     push_if(blocks, !ends_block(last), fallthrough())?;
     aim(blocks, lifted, numbers, target(lifted, last));
@@ -104,7 +104,7 @@ fn aim(blocks: &mut Blocks, lifted: &Lifted, numbers: &[u32], target: Option<u32
     requires some { 0 < length blocks.old.blocks }
     requires numbers { AreBlockNumbers lifted.now numbers.now }
     requires target { IfSome target (λ t. t < length lifted.now.ops) }
-    ensures { blocks.new ≡ aimed_at (option_map (block_of lifted.now.begins) target) blocks.old }
+    ensures { blocks.new ≡ targeted_at (option_map (block_of lifted.now.begins) target) blocks.old }
 {
     if let Some(target) = target {
         blocks.aim(numbers[target as usize]);

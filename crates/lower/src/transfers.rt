@@ -9,7 +9,7 @@ ghost use Rattle.lift_blocks.specs.Fits.{FitsInstructions};
 ghost use Rattle.lift_blocks.specs.Kept.{operation_of};
 ghost use Rattle.lift_blocks.specs.Listed.{ends_block as does_end, target_of};
 ghost use Rattle.lower.specs.Instructions.{ecalli, fallthrough as is_fallthrough, jump as is_jump, jump_ind, load_imm_jump, load_imm_jump_ind};
-ghost use Rattle.lower.specs.Lowering.{aim_of, branch as is_branch, jump_by_register, jump_to, jump_with, lower_op, pair as is_pair};
+ghost use Rattle.lower.specs.Lowering.{offset_target, branch as is_branch, jump_by_register, jump_to, jump_with, lower_op, pair as is_pair};
 ghost use Rattle.lower.specs.Plain.{listed};
 
 use crate::forms::{Three, one, rr, rrx, rx, trap, two};
@@ -55,7 +55,7 @@ pub(crate) fn instructions(lifted: &Lifted, op: &SourceOp) -> Three
 /// The operation to which the offset of an operation's last instruction leads.
 pub(crate) fn target(lifted: &Lifted, op: &SourceOp) -> Option<u32>
     requires { IfSome (target_of (operation_of op.now)) (λ t. t < length lifted.now.ops) }
-    ensures value { result ≡ aim_of lifted.now.needed (operation_of op.now) }
+    ensures value { result ≡ offset_target lifted.now.needed (operation_of op.now) }
     ensures within { IfSome result (λ t. t < length lifted.now.ops) }
 {
     match *op {

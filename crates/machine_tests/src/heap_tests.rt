@@ -27,7 +27,7 @@ const GROWS: [u8; 23] = [
 ];
 
 #[test]
-fn a_call_leaves_the_machine_behind_it(rt: HostRuntime) -> Result<(), Fail> {
+fn a_call_leaves_the_machine_after_it(rt: HostRuntime) -> Result<(), Fail> {
     let container = Container::read(&CALLS)?;
     let mut machine = Machine::start(rt.alloc(), &container, 0, b"hi", 5)?;
     assert_eq!(rt; machine.step(), Step::Host(42));

@@ -80,7 +80,7 @@ const ENDS: [([u8; 10], u64, u64, u64); 5] = [
 ];
 
 #[test]
-fn how_an_inner_machine_stops_is_told(rt: HostRuntime) -> Result<(), Fail> {
+fn how_an_inner_machine_stops_is_reported(rt: HostRuntime) -> Result<(), Fail> {
     let mut caller = Caller::with(rt.alloc(), &EMPTY)?;
     for (program, len, seventh, eighth) in ENDS {
         assert_eq!(rt;

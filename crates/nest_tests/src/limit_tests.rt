@@ -3,7 +3,7 @@ use inner_machines::Served;
 use std::test::*;
 
 #[test]
-fn as_many_machines_as_may_stand(rt: HostRuntime) -> Result<(), Fail> {
+fn as_many_machines_as_there_may_be(rt: HostRuntime) -> Result<(), Fail> {
     let mut caller = Caller::with(rt.alloc(), &EMPTY)?;
     for number in 0..1024 {
         assert_eq!(rt; caller.call(8, [STACK, 3, 0, 0]), (Served::Done, number, 3));

@@ -58,5 +58,5 @@ KeepsOthers name (Some old) None = ⊥
 KeepsOthers name (Some old) (Some new) = (other : List ℕ) → other ≢ name → new other ≡ old other
 
 -- a prefix of the piece was appended, if the bytes of the sink are known
-abbrev pub AppendsFront : Option (List ℕ) → Option (List ℕ) → List ℕ → Type 0
-AppendsFront old new piece = (n : ℕ) × Appends old new (take n piece)
+abbrev pub AppendsPrefix : Option (List ℕ) → Option (List ℕ) → List ℕ → Type 0
+AppendsPrefix old new piece = (n : ℕ) × Appends old new (take n piece)

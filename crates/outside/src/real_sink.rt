@@ -1,6 +1,6 @@
 ghost use Rattle.std.specs.Prelude.{◌≡◌, OnOk, OnErr};
 ghost use Rattle.std.specs.Io.KnownBytes.{Appends};
-ghost use Rattle.outside.specs.Outside.{AppendsFront, HasCause};
+ghost use Rattle.outside.specs.Outside.{AppendsPrefix, HasCause};
 
 use crate::folder::Failed;
 use crate::sink::Sink;
@@ -40,7 +40,7 @@ impl<W: Write> Sink for RealSink<W> {
     /// Fails where the writer does, or takes nothing of what is left.
     fn put(&mut self, piece: &[u8]) -> Result<(), Failed>
         ensures ok { OnOk result (Appends (W.contents (writer_of self.old)) (W.contents (writer_of self.new)) piece.now) }
-        ensures err { OnErr result (AppendsFront (W.contents (writer_of self.old)) (W.contents (writer_of self.new)) piece.now) }
+        ensures err { OnErr result (AppendsPrefix (W.contents (writer_of self.old)) (W.contents (writer_of self.new)) piece.now) }
         ensures cause { HasCause (faults_of self.old) (faults_of self.new) result }
     {
         let answer = write_whole(&mut self.writer, piece);

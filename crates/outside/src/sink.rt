@@ -1,6 +1,6 @@
 ghost use Rattle.std.specs.Prelude.{ℕ, List, Option, OnOk, OnErr};
 ghost use Rattle.std.specs.Io.KnownBytes.{Appends};
-ghost use Rattle.outside.specs.Outside.{AppendsFront, HasCause};
+ghost use Rattle.outside.specs.Outside.{AppendsPrefix, HasCause};
 
 use crate::folder::Failed;
 
@@ -19,6 +19,6 @@ pub trait Sink {
     /// appended.
     fn put(&mut self, piece: &[u8]) -> Result<(), Failed>
         ensures ok { OnOk result (Appends (bytes self.old) (bytes self.new) piece.now) }
-        ensures err { OnErr result (AppendsFront (bytes self.old) (bytes self.new) piece.now) }
+        ensures err { OnErr result (AppendsPrefix (bytes self.old) (bytes self.new) piece.now) }
         ensures cause { HasCause (faults self.old) (faults self.new) result };
 }

@@ -3,7 +3,7 @@
 ghost use Rattle.std.specs.Prelude.{◌≡◌, ◌+◌, ◌<◌, ◌≤◌, ◌^◌, Some, length, take, MatchOption, IfOk, IsErrOf, OnOk, OnErr};
 ghost use Rattle.std.specs.Io.{ReadsAtMost, WritesAtMost};
 ghost use Rattle.std.specs.Io.KnownBytes.{Appends, Consumes, Keeps, IsAtEnd};
-ghost use Rattle.outside.specs.Outside.{AppendsFront, ReadsContent};
+ghost use Rattle.outside.specs.Outside.{AppendsPrefix, ReadsContent};
 ghost use Rattle.outside.specs.Transfer.{Takes, TakesAtMost};
 
 use crate::bytes::Bytes;
@@ -20,7 +20,7 @@ const SHORTEST_READ: usize = 4 * 1024;
 /// Writes all of the bytes, in as many calls as it takes. A call that takes none is a fault.
 pub(crate) fn write_whole<W: Write>(writer: &mut W, bytes: &[u8]) -> Result<(), Failed>
     ensures ok { OnOk result (Appends (W.contents writer.old) (W.contents writer.new) bytes.now) }
-    ensures err { OnErr result (AppendsFront (W.contents writer.old) (W.contents writer.new) bytes.now) }
+    ensures err { OnErr result (AppendsPrefix (W.contents writer.old) (W.contents writer.new) bytes.now) }
 {
     let mut done = 0;
     while done < bytes.len() {

@@ -13,7 +13,7 @@ use Rattle.polkatool_cmd.specs.BlobFaults.{first_blob_fault}
 use Rattle.polkatool_cmd.specs.RunWords.{RunCommand}
 use Rattle.polkatool_cmd.specs.Linking.{IsTooLarge, FailsToReadOne}
 use Rattle.polkatool_cmd.specs.Running.{FailsToReadReplies}
-use Rattle.polkatool_cmd.specs.Answers.{HasRunFault, TextComesTo, RunComesTo}
+use Rattle.polkatool_cmd.specs.Answers.{HasRunFault, TextResultsIn, RunResultsIn}
 use Rattle.polkatool_cmd.specs.Snapshot.{Snapshot, HasFault}
 use Rattle.polkatool_cmd.specs.Blobs.{HoldsBlob, HoldsTooLarge, FailsToReadBlob}
 use Rattle.polkatool_cmd.proofs.Answering.{long-read}
@@ -43,17 +43,17 @@ pub unchanged : (old new : Snapshot) → new ≡ record old { reads = new.reads 
 unchanged old new others kept = others ∙ ap (λ reads. record old { reads = reads }) kept
 
 -- a run whose blob wasn't read
-pub RunComesTo-unread :
+pub RunResultsIn-unread :
     (asked : RunCommand) (answer : Answer) (old new : Snapshot)
     → FailsToReadBlob old.files asked.blob old.reads new.reads answer → new ≡ record old { reads = new.reads }
-    → RunComesTo asked answer old new
-RunComesTo-unread asked answers.Done old new fails others = absurd fails
-RunComesTo-unread asked answers.Panicked old new fails others = absurd fails
-RunComesTo-unread asked answers.Faulted old new fails others = absurd fails
-RunComesTo-unread asked answers.OutOfGas old new fails others = absurd fails
-RunComesTo-unread asked answers.Unanswered old new fails others = absurd fails
-RunComesTo-unread asked answers.BadReply old new fails others = absurd fails
-RunComesTo-unread asked (answers.Refused fault) old new fails others =
+    → RunResultsIn asked answer old new
+RunResultsIn-unread asked answers.Done old new fails others = absurd fails
+RunResultsIn-unread asked answers.Panicked old new fails others = absurd fails
+RunResultsIn-unread asked answers.Faulted old new fails others = absurd fails
+RunResultsIn-unread asked answers.OutOfGas old new fails others = absurd fails
+RunResultsIn-unread asked answers.Unanswered old new fails others = absurd fails
+RunResultsIn-unread asked answers.BadReply old new fails others = absurd fails
+RunResultsIn-unread asked (answers.Refused fault) old new fails others =
     let long = fails.1 in (
       record {
         blob = long.file;
@@ -64,17 +64,17 @@ RunComesTo-unread asked (answers.Refused fault) old new fails others =
       },
       unchanged old new others fails.2,
     )
-RunComesTo-unread asked answers.Usage old new fails others = absurd fails
-RunComesTo-unread asked answers.FileFault old new fails others =
+RunResultsIn-unread asked answers.Usage old new fails others = absurd fails
+RunResultsIn-unread asked answers.FileFault old new fails others =
     inl (record { later = fails.0; cause = fails.1; others = others })
-RunComesTo-unread asked answers.Memory old new fails others = inl (unchanged old new others fails)
+RunResultsIn-unread asked answers.Memory old new fails others = inl (unchanged old new others fails)
 
 -- a run whose file of replies wasn't read
-pub RunComesTo-no_replies :
+pub RunResultsIn-no_replies :
     (asked : RunCommand) (answer : Answer) (old new : Snapshot) (blob : List ℕ) → HoldsBlob old.files asked.blob blob
     → FailsToReadReplies old.files asked.settings.replies 1 old.reads new.reads answer → new ≡ record old { reads = new.reads }
-    → RunComesTo asked answer old new
-RunComesTo-no_replies asked answer old new blob holds fails others = by_name asked.settings.replies refl fails
+    → RunResultsIn asked answer old new
+RunResultsIn-no_replies asked answer old new blob holds fails others = by_name asked.settings.replies refl fails
   where
     large : (name : List ℕ) (fault : Fault) → asked.settings.replies ≡ Some name → IsTooLarge old.files name (2 ^ 20) → fault ≡ file_too_large 1 → HasRunFault old.files asked fault
     large name fault is long fault_is = record {
@@ -85,7 +85,7 @@ RunComesTo-no_replies asked answer old new blob holds fails others = by_name ask
       first = run_fault-replies asked.settings.entry asked.settings.argument blob long.file holds.len long.large ∙ ap (λ f. Some f) (sym fault_is);
     }
 
-    by_answer : (name : List ℕ) → asked.settings.replies ≡ Some name → (answer : Answer) → FailsToReadOne old.files name 1 (2 ^ 20) old.reads new.reads answer → RunComesTo asked answer old new
+    by_answer : (name : List ℕ) → asked.settings.replies ≡ Some name → (answer : Answer) → FailsToReadOne old.files name 1 (2 ^ 20) old.reads new.reads answer → RunResultsIn asked answer old new
     by_answer name is answers.Done fails = absurd fails
     by_answer name is answers.Panicked fails = absurd fails
     by_answer name is answers.Faulted fails = absurd fails
@@ -98,25 +98,25 @@ RunComesTo-no_replies asked answer old new blob holds fails others = by_name ask
         inr (inl (record { blob = blob; blob_held = holds.held; fits = holds.len; name = name; is_name = is; failed = record { later = fails.later; cause = fails.cause; others = others } }))
     by_answer name is answers.Memory fails = inl (unchanged old new others fails)
 
-    by_name : (o : Option (List ℕ)) → asked.settings.replies ≡ o → FailsToReadReplies old.files o 1 old.reads new.reads answer → RunComesTo asked answer old new
+    by_name : (o : Option (List ℕ)) → asked.settings.replies ≡ o → FailsToReadReplies old.files o 1 old.reads new.reads answer → RunResultsIn asked answer old new
     by_name None is fails = absurd fails
     by_name (Some name) is fails = by_answer name is answer fails
 
 -- a command that puts a text, whose blob wasn't read
-pub TextComesTo-unread :
+pub TextResultsIn-unread :
     (fault_in : Container → Option Fault) (text_of : Container → List ℕ) (blob : List ℕ) (answer : Answer)
     (old new : Snapshot)
     → FailsToReadBlob old.files blob old.reads new.reads answer → new ≡ record old { reads = new.reads }
-    → TextComesTo (first_blob_fault fault_in) text_of blob answer old new
-TextComesTo-unread fault_in text_of blob answers.Done old new fails others = absurd fails
-TextComesTo-unread fault_in text_of blob answers.Panicked old new fails others = absurd fails
-TextComesTo-unread fault_in text_of blob answers.Faulted old new fails others = absurd fails
-TextComesTo-unread fault_in text_of blob answers.OutOfGas old new fails others = absurd fails
-TextComesTo-unread fault_in text_of blob answers.Unanswered old new fails others = absurd fails
-TextComesTo-unread fault_in text_of blob answers.BadReply old new fails others = absurd fails
-TextComesTo-unread fault_in text_of blob (answers.Refused fault) old new fails others =
+    → TextResultsIn (first_blob_fault fault_in) text_of blob answer old new
+TextResultsIn-unread fault_in text_of blob answers.Done old new fails others = absurd fails
+TextResultsIn-unread fault_in text_of blob answers.Panicked old new fails others = absurd fails
+TextResultsIn-unread fault_in text_of blob answers.Faulted old new fails others = absurd fails
+TextResultsIn-unread fault_in text_of blob answers.OutOfGas old new fails others = absurd fails
+TextResultsIn-unread fault_in text_of blob answers.Unanswered old new fails others = absurd fails
+TextResultsIn-unread fault_in text_of blob answers.BadReply old new fails others = absurd fails
+TextResultsIn-unread fault_in text_of blob (answers.Refused fault) old new fails others =
     (HasFault-long fault_in old.files blob fault fails.0 fails.1, unchanged old new others fails.2)
-TextComesTo-unread fault_in text_of blob answers.Usage old new fails others = absurd fails
-TextComesTo-unread fault_in text_of blob answers.FileFault old new fails others =
+TextResultsIn-unread fault_in text_of blob answers.Usage old new fails others = absurd fails
+TextResultsIn-unread fault_in text_of blob answers.FileFault old new fails others =
     inl (record { later = fails.0; cause = fails.1; others = others })
-TextComesTo-unread fault_in text_of blob answers.Memory old new fails others = unchanged old new others fails
+TextResultsIn-unread fault_in text_of blob answers.Memory old new fails others = unchanged old new others fails

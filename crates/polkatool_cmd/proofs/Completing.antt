@@ -5,10 +5,10 @@ use Rattle.outside.specs.Outside.{Files, Rose, Missing}
 use Rattle.elf_objects.specs.declared.fault.Fault.{Fault}
 use Rattle.blob_codec.specs.Grammar.{Container}
 use Rattle.link_core.specs.Faults.{HasFirstFault, FirstFaultIsOne}
-use Rattle.polkatool_cmd.specs.Answers.{HoldsContainer, TextComesTo, Reports}
-use Rattle.polkatool_cmd.specs.Complete.{AreTold, NoneFailed, CanLink}
+use Rattle.polkatool_cmd.specs.Answers.{HoldsContainer, TextResultsIn, Reports}
+use Rattle.polkatool_cmd.specs.Complete.{AreFilesKnown, NoneFailed, CanLink}
 use Rattle.polkatool_cmd.specs.Faults.{limit_of, too_large_from, first_too_large}
-use Rattle.polkatool_cmd.specs.LinkAnswers.{HoldFiles, HasLargeFile, HasObjectFault, FailedObject, FailedWrite, FailedPut, LinkComesTo}
+use Rattle.polkatool_cmd.specs.LinkAnswers.{HoldFiles, HasLargeFile, HasObjectFault, FailedObject, FailedWrite, FailedPut, LinkResultsIn}
 use Rattle.polkatool_cmd.specs.LinkWords.{LinkCommand}
 use Rattle.polkatool_cmd.specs.Snapshot.{Snapshot, Stream, Holds, FailedRead}
 use Rattle.polkatool_cmd.specs.declared.answer.Answer.{Answer}
@@ -17,12 +17,12 @@ use Rattle.polkatool_cmd.specs.declared.status.Status.{Status}
 use Rattle.polkatool_cmd.specs.declared.status.Status.TheVariants as statuses
 
 -- a name holds one file
-pub holds_one : (told : Option Files) (name f g : List ℕ) → AreTold told → Holds told name f → Holds told name g → f ≡ g
+pub holds_one : (seen : Option Files) (name f g : List ℕ) → AreFilesKnown seen → Holds seen name f → Holds seen name g → f ≡ g
 holds_one None name f g known a b = absurd known
 holds_one (Some files) name f g known a b = let same : ◌≡◌ {A = Option (List ℕ)} (Some f) (Some g) = sym a ∙ b in cc
 
 -- a name that holds a file isn't missing
-pub not_missing : (told : Option Files) (name f : List ℕ) → Holds told name f → Missing told name → ⊥
+pub not_missing : (seen : Option Files) (name f : List ℕ) → Holds seen name f → Missing seen name → ⊥
 not_missing None name f a missing = missing
 not_missing (Some files) name f a missing = let none : ◌≡◌ {A = Option (List ℕ)} (Some f) None = sym a ∙ missing in cc
 
@@ -35,38 +35,38 @@ not_unread name f old new held none failed = by_cause failed.cause
     by_cause (inr missing) = not_missing old.files name f held missing
 
 -- files of the same names are the same
-pub same_files : (told : Option Files) (names fs gs : List (List ℕ)) → AreTold told → HoldFiles told names fs → HoldFiles told names gs → length fs ≡ length names → length gs ≡ length names → fs ≡ gs
-same_files told [] [] [] known a b e f = refl
-same_files told [] (x ∷ fs) gs known a b e f = absurd a
-same_files told [] [] (y ∷ gs) known a b e f = absurd b
-same_files told (name ∷ names) [] gs known a b e f = absurd (omega (arith, e))
-same_files told (name ∷ names) (x ∷ fs) [] known a b e f = absurd (omega (arith, f))
-same_files told (name ∷ names) (x ∷ fs) (y ∷ gs) known a b e f =
-    let one : x ≡ y = holds_one told name x y known a.0 b.0 in
-    let rest : fs ≡ gs = same_files told names fs gs known a.1 b.1 (omega (arith, e)) (omega (arith, f)) in
+pub same_files : (seen : Option Files) (names fs gs : List (List ℕ)) → AreFilesKnown seen → HoldFiles seen names fs → HoldFiles seen names gs → length fs ≡ length names → length gs ≡ length names → fs ≡ gs
+same_files seen [] [] [] known a b e f = refl
+same_files seen [] (x ∷ fs) gs known a b e f = absurd a
+same_files seen [] [] (y ∷ gs) known a b e f = absurd b
+same_files seen (name ∷ names) [] gs known a b e f = absurd (omega (arith, e))
+same_files seen (name ∷ names) (x ∷ fs) [] known a b e f = absurd (omega (arith, f))
+same_files seen (name ∷ names) (x ∷ fs) (y ∷ gs) known a b e f =
+    let one : x ≡ y = holds_one seen name x y known a.0 b.0 in
+    let rest : fs ≡ gs = same_files seen names fs gs known a.1 b.1 (omega (arith, e)) (omega (arith, f)) in
     ap (λ z. z ∷ fs) one ∙ ap (λ l. y ∷ l) rest
 
 -- where no file of all is too large, none of the first is
-pub none_large : (told : Option Files) (number left : ℕ) (names fs gs : List (List ℕ)) → AreTold told → HoldFiles told names fs → HoldFiles told names gs → length gs ≡ length names → too_large_from number left gs ≡ None → too_large_from number left fs ≡ None
-none_large told number left names [] gs known a b e none = refl
-none_large told number left [] (x ∷ fs) gs known a b e none = absurd a
-none_large told number left (name ∷ names) (x ∷ fs) [] known a b e none = absurd (omega (arith, e))
-none_large told number left (name ∷ names) (x ∷ fs) (y ∷ gs) known a b e none =
-    let one : x ≡ y = holds_one told name x y known a.0 b.0 in
+pub none_large : (seen : Option Files) (number left : ℕ) (names fs gs : List (List ℕ)) → AreFilesKnown seen → HoldFiles seen names fs → HoldFiles seen names gs → length gs ≡ length names → too_large_from number left gs ≡ None → too_large_from number left fs ≡ None
+none_large seen number left names [] gs known a b e none = refl
+none_large seen number left [] (x ∷ fs) gs known a b e none = absurd a
+none_large seen number left (name ∷ names) (x ∷ fs) [] known a b e none = absurd (omega (arith, e))
+none_large seen number left (name ∷ names) (x ∷ fs) (y ∷ gs) known a b e none =
+    let one : x ≡ y = holds_one seen name x y known a.0 b.0 in
     subst (λ z. too_large_from number left (z ∷ fs) ≡ None) (sym one)
-    (by_test (λ rest. none_large told (number + 1) (left - length y) names fs gs known a.1 b.1 (omega (arith, e)) rest) (nat_lt (limit_of left) (length y)) refl)
+    (by_test (λ rest. none_large seen (number + 1) (left - length y) names fs gs known a.1 b.1 (omega (arith, e)) rest) (nat_lt (limit_of left) (length y)) refl)
   where
     by_test : (too_large_from (number + 1) (left - length y) gs ≡ None → too_large_from (number + 1) (left - length y) fs ≡ None) → (large : Bool) → nat_lt (limit_of left) (length y) ≡ large → too_large_from number left (y ∷ fs) ≡ None
     by_test further true is = let no = rw is at none in absurd cc
     by_test further false is = rw is (further (rw is at none))
 
 -- a name of those that hold files holds one
-pub next_held : (told : Option Files) (names gs : List (List ℕ)) (at : ℕ) (name : List ℕ) → HoldFiles told names gs → length gs ≡ length names → slice_get names at ≡ Some name → (f : List ℕ) × Holds told name f
-next_held told [] gs at name held e there = absurd cc
-next_held told (n ∷ names) [] at name held e there = absurd (omega (arith, e))
-next_held told (n ∷ names) (g ∷ gs) zero name held e there =
-    let same : n ≡ name = cc in (g, subst (λ m. Holds told m g) same held.0)
-next_held told (n ∷ names) (g ∷ gs) (suc at) name held e there = next_held told names gs at name held.1 (omega (arith, e)) there
+pub next_held : (seen : Option Files) (names gs : List (List ℕ)) (at : ℕ) (name : List ℕ) → HoldFiles seen names gs → length gs ≡ length names → slice_get names at ≡ Some name → (f : List ℕ) × Holds seen name f
+next_held seen [] gs at name held e there = absurd cc
+next_held seen (n ∷ names) [] at name held e there = absurd (omega (arith, e))
+next_held seen (n ∷ names) (g ∷ gs) zero name held e there =
+    let same : n ≡ name = cc in (g, subst (λ m. Holds seen m g) same held.0)
+next_held seen (n ∷ names) (g ∷ gs) (suc at) name held e there = next_held seen names gs at name held.1 (omega (arith, e)) there
 
 -- the status of what was out of memory
 pub memory_status : (status wanted : Status) (err err' : Stream) → ¬ Rose err.puts err'.puts → Reports answers.Memory status err err' → (status ≡ wanted) ⊎ (status ≡ statuses.Memory)
@@ -74,10 +74,10 @@ memory_status status wanted err err' none (inl put) = inr put.status_is
 memory_status status wanted err err' none (inr cut) = absurd (none cut.cause)
 
 pub link_complete :
-    FirstFaultIsOne → (link : LinkCommand) (wanted status : Status) (answer : Answer) (old new : Snapshot) (err err' : Stream) → AreTold old.files
-    → CanLink old.files link wanted → NoneFailed old new err err' → LinkComesTo link answer old new → Reports answer status err err'
+    FirstFaultIsOne → (link : LinkCommand) (wanted status : Status) (answer : Answer) (old new : Snapshot) (err err' : Stream) → AreFilesKnown old.files
+    → CanLink old.files link wanted → NoneFailed old new err err' → LinkResultsIn link answer old new → Reports answer status err err'
     → (status ≡ wanted) ⊎ (status ≡ statuses.Memory)
-link_complete law link wanted status answer old new err err' known can none comes reports = by_answer answer comes reports
+link_complete law link wanted status answer old new err err' known can none results reports = by_answer answer results reports
   where
     large : (fault : Fault) → HasLargeFile old.files link.input fault → ⊥
     large fault l =
@@ -104,24 +104,24 @@ link_complete law link wanted status answer old new err err' known can none come
     failed (inr (inl w)) = none.writes w.cause
     failed (inr (inr p)) = none.puts p.cause
 
-    by_answer : (answer : Answer) → LinkComesTo link answer old new → Reports answer status err err' → (status ≡ wanted) ⊎ (status ≡ statuses.Memory)
-    by_answer answers.Done comes reports = inl (reports.0 ∙ sym can.status_is)
-    by_answer answers.Panicked comes reports = absurd comes
-    by_answer answers.Faulted comes reports = absurd comes
-    by_answer answers.OutOfGas comes reports = absurd comes
-    by_answer answers.Unanswered comes reports = absurd comes
-    by_answer answers.BadReply comes reports = absurd comes
-    by_answer (answers.Refused fault) comes reports = absurd (refused fault comes.0)
-    by_answer answers.Usage comes reports = absurd comes
-    by_answer answers.FileFault comes reports = absurd (failed comes)
-    by_answer answers.Memory comes reports = memory_status status wanted err err' none.err_puts reports
+    by_answer : (answer : Answer) → LinkResultsIn link answer old new → Reports answer status err err' → (status ≡ wanted) ⊎ (status ≡ statuses.Memory)
+    by_answer answers.Done results reports = inl (reports.0 ∙ sym can.status_is)
+    by_answer answers.Panicked results reports = absurd results
+    by_answer answers.Faulted results reports = absurd results
+    by_answer answers.OutOfGas results reports = absurd results
+    by_answer answers.Unanswered results reports = absurd results
+    by_answer answers.BadReply results reports = absurd results
+    by_answer (answers.Refused fault) results reports = absurd (refused fault results.0)
+    by_answer answers.Usage results reports = absurd results
+    by_answer answers.FileFault results reports = absurd (failed results)
+    by_answer answers.Memory results reports = memory_status status wanted err err' none.err_puts reports
 
 -- a command that puts a text of a container
 pub text_complete :
-    (first_of : List ℕ → Option Fault) (text_of : Container → List ℕ) (blob : List ℕ) (container : Container) (wanted status : Status) (answer : Answer) (old new : Snapshot) (err err' : Stream) → AreTold old.files
-    → HoldsContainer first_of old.files blob container → wanted ≡ statuses.Done → NoneFailed old new err err' → TextComesTo first_of text_of blob answer old new → Reports answer status err err'
+    (first_of : List ℕ → Option Fault) (text_of : Container → List ℕ) (blob : List ℕ) (container : Container) (wanted status : Status) (answer : Answer) (old new : Snapshot) (err err' : Stream) → AreFilesKnown old.files
+    → HoldsContainer first_of old.files blob container → wanted ≡ statuses.Done → NoneFailed old new err err' → TextResultsIn first_of text_of blob answer old new → Reports answer status err err'
     → (status ≡ wanted) ⊎ (status ≡ statuses.Memory)
-text_complete first_of text_of blob container wanted status answer old new err err' known holds done none comes reports = by_answer answer comes reports
+text_complete first_of text_of blob container wanted status answer old new err err' known holds done none results reports = by_answer answer results reports
   where
     refused : (fault : Fault) (file : List ℕ) → Holds old.files blob file → first_of file ≡ Some fault → ⊥
     refused fault file held first =
@@ -129,15 +129,15 @@ text_complete first_of text_of blob container wanted status answer old new err e
         let no : ◌≡◌ {A = Option Fault} (Some fault) None = sym first ∙ ap first_of same ∙ holds.no_fault in
         absurd cc
 
-    by_answer : (answer : Answer) → TextComesTo first_of text_of blob answer old new → Reports answer status err err' → (status ≡ wanted) ⊎ (status ≡ statuses.Memory)
-    by_answer answers.Done comes reports = inl (reports.0 ∙ sym done)
-    by_answer answers.Panicked comes reports = absurd comes
-    by_answer answers.Faulted comes reports = absurd comes
-    by_answer answers.OutOfGas comes reports = absurd comes
-    by_answer answers.Unanswered comes reports = absurd comes
-    by_answer answers.BadReply comes reports = absurd comes
-    by_answer (answers.Refused fault) comes reports = absurd (refused fault comes.0.file comes.0.held comes.0.first)
-    by_answer answers.Usage comes reports = absurd comes
+    by_answer : (answer : Answer) → TextResultsIn first_of text_of blob answer old new → Reports answer status err err' → (status ≡ wanted) ⊎ (status ≡ statuses.Memory)
+    by_answer answers.Done results reports = inl (reports.0 ∙ sym done)
+    by_answer answers.Panicked results reports = absurd results
+    by_answer answers.Faulted results reports = absurd results
+    by_answer answers.OutOfGas results reports = absurd results
+    by_answer answers.Unanswered results reports = absurd results
+    by_answer answers.BadReply results reports = absurd results
+    by_answer (answers.Refused fault) results reports = absurd (refused fault results.0.file results.0.held results.0.first)
+    by_answer answers.Usage results reports = absurd results
     by_answer answers.FileFault (inl unread) reports = absurd (not_unread blob holds.file old new holds.held none.reads unread)
     by_answer answers.FileFault (inr cut) reports = absurd (none.puts cut.cause)
-    by_answer answers.Memory comes reports = memory_status status wanted err err' none.err_puts reports
+    by_answer answers.Memory results reports = memory_status status wanted err err' none.err_puts reports

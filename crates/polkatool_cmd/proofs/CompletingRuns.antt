@@ -4,7 +4,7 @@ use Rattle.std.proofs.lemmas.Bool.{ltb-false}
 use Rattle.std.proofs.Common.{◌≡◌, ◌≤◌, ◌⊎◌, ℕ, ◌^◌, Bool, true, false, List, length, Option, Some, None, Result, Ok, refl, sym, ap, ◌∙◌, subst, inl, inr}
 use Rattle.outside.specs.Outside.{Files, Rose}
 use Rattle.elf_objects.specs.declared.fault.Fault.{Fault}
-use Rattle.runs.specs.Runs.{Paid}
+use Rattle.runs.specs.Runs.{MeteredRun}
 use Rattle.machine_state.specs.Ends.{Event, End}
 use Rattle.blob_codec.specs.Grammar.{Container, container_bytes}
 use Rattle.blob_codec.specs.declared.fault.BlobFault.{BlobFault}
@@ -15,8 +15,8 @@ use Rattle.link_core.specs.Faults.{input_of, HasFirstFault, FirstFaultIsOne}
 use Rattle.link_core.specs.Laws.{LinkedIsOne}
 use Rattle.link_core.specs.Linked.{Linked, IsLinked}
 use Rattle.link_core.specs.Runs.{machine_run}
-use Rattle.polkatool_cmd.specs.Answers.{HoldsRun, HasRunFault, HasRun, FailedReplies, FailedTranscript, RunComesTo, HoldsExec, HasRepliesFault, HasLinkFault, HasStartFault, FailedExecReplies, ExecComesTo, Reports}
-use Rattle.polkatool_cmd.specs.Complete.{AreTold, NoneFailed, CanRun, CanExec}
+use Rattle.polkatool_cmd.specs.Answers.{HoldsRun, HasRunFault, HasRun, FailedReplies, FailedTranscript, RunResultsIn, HoldsExec, HasRepliesFault, HasLinkFault, HasStartFault, FailedExecReplies, ExecResultsIn, Reports}
+use Rattle.polkatool_cmd.specs.Complete.{AreFilesKnown, NoneFailed, CanRun, CanExec}
 use Rattle.polkatool_cmd.specs.ExecWords.{ExecCommand}
 use Rattle.polkatool_cmd.specs.Faults.{first_too_large}
 use Rattle.polkatool_cmd.specs.LinkAnswers.{HasObjects, HasLargeFile, FailedObject, LinksFiles}
@@ -32,9 +32,9 @@ use Rattle.polkatool_cmd.specs.declared.status.Status.TheVariants as statuses
 use Rattle.polkatool_cmd.proofs.Completing.{holds_one, not_unread, same_files, none_large, next_held, memory_status}
 
 -- the file of replies is one
-replies_one : (told : Option Files) (name : Option (List ℕ)) (f g : List ℕ) → AreTold told → HoldsReplies told name f → HoldsReplies told name g → f ≡ g
-replies_one told None f g known a b = a ∙ sym b
-replies_one told (Some name) f g known a b = holds_one told name f g known a b
+replies_one : (seen : Option Files) (name : Option (List ℕ)) (f g : List ℕ) → AreFilesKnown seen → HoldsReplies seen name f → HoldsReplies seen name g → f ≡ g
+replies_one seen None f g known a b = a ∙ sym b
+replies_one seen (Some name) f g known a b = holds_one seen name f g known a b
 
 -- the read of a file of replies that is there didn't fail
 not_unread_replies : (replies : Option (List ℕ)) (name f : List ℕ) (old new : Snapshot) → HoldsReplies old.files replies f → replies ≡ Some name → ¬ Rose old.reads new.reads → FailedRead name old new → ⊥
@@ -52,10 +52,10 @@ blob_fits entry argument blob file none = by_test (nat_lt (2 ^ 27) (length blob)
     by_test true is = let no = rw is at none in absurd cc
 
 -- a run of files is one
-run_one : (told : Option Files) (asked : RunCommand) (r s : Paid Event End) → AreTold told → HoldsRun told asked r → HoldsRun told asked s → r ≡ s
-run_one told asked r s known a b =
-    let blob : a.blob ≡ b.blob = holds_one told asked.blob a.blob b.blob known a.blob_held b.blob_held in
-    let file : a.file ≡ b.file = replies_one told asked.settings.replies a.file b.file known a.file_held b.file_held in
+run_one : (seen : Option Files) (asked : RunCommand) (r s : MeteredRun Event End) → AreFilesKnown seen → HoldsRun seen asked r → HoldsRun seen asked s → r ≡ s
+run_one seen asked r s known a b =
+    let blob : a.blob ≡ b.blob = holds_one seen asked.blob a.blob b.blob known a.blob_held b.blob_held in
+    let file : a.file ≡ b.file = replies_one seen asked.settings.replies a.file b.file known a.file_held b.file_held in
     let container : ◌≡◌ {A = Result Container BlobFault} (Ok a.container) (Ok b.container) = sym a.is_container ∙ ap container_of blob ∙ b.is_container in
     let replies : ◌≡◌ {A = Result (List Reply) ℕ} (Ok a.replies) (Ok b.replies) = sym a.are_replies ∙ ap replies_of file ∙ b.are_replies in
     let same_container : a.container ≡ b.container = cc in
@@ -66,24 +66,24 @@ run_one told asked r s known a b =
     ∙ sym b.run_is
 
 -- a run that was told has the status of the run that is meant
-told_status :
-    (IsAsked : Paid Event End → Type 0) (run : Paid Event End) (wanted status s : Status) (old new : Snapshot) → ((other : Paid Event End) → IsAsked other → other ≡ run)
+seen_status :
+    (IsAsked : MeteredRun Event End → Type 0) (run : MeteredRun Event End) (wanted status s : Status) (old new : Snapshot) → ((other : MeteredRun Event End) → IsAsked other → other ≡ run)
     → wanted ≡ status_of run.end → HasRun IsAsked s old new → status ≡ s → (status ≡ wanted) ⊎ (status ≡ statuses.Memory)
-told_status IsAsked run wanted status s old new one is told reports = inl (reports ∙ sym told.ended ∙ ap (λ (r : Paid Event End). status_of r.end) (one told.run told.is_run) ∙ sym is)
+seen_status IsAsked run wanted status s old new one is seen reports = inl (reports ∙ sym seen.ended ∙ ap (λ (r : MeteredRun Event End). status_of r.end) (one seen.run seen.is_run) ∙ sym is)
 
 pub run_complete :
-    (asked : RunCommand) (wanted status : Status) (answer : Answer) (old new : Snapshot) (err err' : Stream) → AreTold old.files → CanRun old.files asked wanted
-    → NoneFailed old new err err' → RunComesTo asked answer old new → Reports answer status err err' → (status ≡ wanted) ⊎ (status ≡ statuses.Memory)
-run_complete asked wanted status answer old new err err' known can none comes reports = by_answer answer comes reports
+    (asked : RunCommand) (wanted status : Status) (answer : Answer) (old new : Snapshot) (err err' : Stream) → AreFilesKnown old.files → CanRun old.files asked wanted
+    → NoneFailed old new err err' → RunResultsIn asked answer old new → Reports answer status err err' → (status ≡ wanted) ⊎ (status ≡ statuses.Memory)
+run_complete asked wanted status answer old new err err' known can none results reports = by_answer answer results reports
   where
     h : HoldsRun old.files asked can.run
     h = can.holds
 
-    one : (other : Paid Event End) → HoldsRun old.files asked other → other ≡ can.run
+    one : (other : MeteredRun Event End) → HoldsRun old.files asked other → other ≡ can.run
     one other o = run_one old.files asked other can.run known o h
 
-    told : (s : Status) → HasRun (HoldsRun old.files asked) s old new → status ≡ s → (status ≡ wanted) ⊎ (status ≡ statuses.Memory)
-    told s has is = told_status (HoldsRun old.files asked) can.run wanted status s old new one can.status_is has is
+    seen : (s : Status) → HasRun (HoldsRun old.files asked) s old new → status ≡ s → (status ≡ wanted) ⊎ (status ≡ statuses.Memory)
+    seen s has is = seen_status (HoldsRun old.files asked) can.run wanted status s old new one can.status_is has is
 
     refused_with : (fault : Fault) (blob file : List ℕ) → blob ≡ h.blob → file ≡ h.file → first_run_fault asked.settings.entry asked.settings.argument blob file ≡ Some fault → ⊥
     refused_with fault blob file same_blob same_file first =
@@ -103,24 +103,24 @@ run_complete asked wanted status answer old new err err' known can none comes re
         replies_one old.files asked.settings.replies r.file h.file known (r.file_held (subst (λ b. length b ≤ 2 ^ 27) (sym blob) small)) h.file_held in
         refused_with fault r.blob r.file blob file r.first
 
-    by_answer : (answer : Answer) → RunComesTo asked answer old new → Reports answer status err err' → (status ≡ wanted) ⊎ (status ≡ statuses.Memory)
-    by_answer answers.Done comes reports = told statuses.Done comes reports.0
-    by_answer answers.Panicked comes reports = told statuses.Panicked comes reports.0
-    by_answer answers.Faulted comes reports = told statuses.Faulted comes reports.0
-    by_answer answers.OutOfGas comes reports = told statuses.OutOfGas comes reports.0
-    by_answer answers.Unanswered comes reports = told statuses.Unanswered comes reports.0
-    by_answer answers.BadReply comes reports = told statuses.BadReply comes reports.0
-    by_answer (answers.Refused fault) comes reports = absurd (refused fault comes.0)
-    by_answer answers.Usage comes reports = absurd comes
-    by_answer answers.FileFault comes reports = absurd (failed comes)
-    by_answer answers.Memory comes reports = memory_status status wanted err err' none.err_puts reports
+    by_answer : (answer : Answer) → RunResultsIn asked answer old new → Reports answer status err err' → (status ≡ wanted) ⊎ (status ≡ statuses.Memory)
+    by_answer answers.Done results reports = seen statuses.Done results reports.0
+    by_answer answers.Panicked results reports = seen statuses.Panicked results reports.0
+    by_answer answers.Faulted results reports = seen statuses.Faulted results reports.0
+    by_answer answers.OutOfGas results reports = seen statuses.OutOfGas results reports.0
+    by_answer answers.Unanswered results reports = seen statuses.Unanswered results reports.0
+    by_answer answers.BadReply results reports = seen statuses.BadReply results reports.0
+    by_answer (answers.Refused fault) results reports = absurd (refused fault results.0)
+    by_answer answers.Usage results reports = absurd results
+    by_answer answers.FileFault results reports = absurd (failed results)
+    by_answer answers.Memory results reports = memory_status status wanted err err' none.err_puts reports
 
 -- an exec of files is one
-exec_one : LinkedIsOne → (told : Option Files) (asked : ExecCommand) (r s : Paid Event End) → AreTold told → HoldsExec told asked r → HoldsExec told asked s → r ≡ s
-exec_one law told asked r s known a b =
-    let file : a.file ≡ b.file = replies_one told asked.settings.replies a.file b.file known a.file_held b.file_held in
+exec_one : LinkedIsOne → (seen : Option Files) (asked : ExecCommand) (r s : MeteredRun Event End) → AreFilesKnown seen → HoldsExec seen asked r → HoldsExec seen asked s → r ≡ s
+exec_one law seen asked r s known a b =
+    let file : a.file ≡ b.file = replies_one seen asked.settings.replies a.file b.file known a.file_held b.file_held in
     let files : a.links.files ≡ b.links.files =
-    same_files told asked.input.objects a.links.files b.links.files known a.links.objects.held b.links.objects.held a.links.objects.all b.links.objects.all in
+    same_files seen asked.input.objects a.links.files b.links.files known a.links.objects.held b.links.objects.held a.links.objects.all b.links.objects.all in
     let replies : ◌≡◌ {A = Result (List Reply) ℕ} (Ok a.replies) (Ok b.replies) = sym a.are_replies ∙ ap replies_of file ∙ b.are_replies in
     let same_replies : a.replies ≡ b.replies = cc in
     let container : a.links.holds.container ≡ b.links.holds.container =
@@ -132,9 +132,9 @@ exec_one law told asked r s known a b =
     ∙ sym b.run_is
 
 pub exec_complete :
-    FirstFaultIsOne → LinkedIsOne → (asked : ExecCommand) (wanted status : Status) (answer : Answer) (old new : Snapshot) (err err' : Stream) → AreTold old.files → CanExec old.files asked wanted
-    → NoneFailed old new err err' → ExecComesTo asked answer old new → Reports answer status err err' → (status ≡ wanted) ⊎ (status ≡ statuses.Memory)
-exec_complete first_law law asked wanted status answer old new err err' known can none comes reports = by_answer answer comes reports
+    FirstFaultIsOne → LinkedIsOne → (asked : ExecCommand) (wanted status : Status) (answer : Answer) (old new : Snapshot) (err err' : Stream) → AreFilesKnown old.files → CanExec old.files asked wanted
+    → NoneFailed old new err err' → ExecResultsIn asked answer old new → Reports answer status err err' → (status ≡ wanted) ⊎ (status ≡ statuses.Memory)
+exec_complete first_law law asked wanted status answer old new err err' known can none results reports = by_answer answer results reports
   where
     h : HoldsExec old.files asked can.run
     h = can.holds
@@ -142,11 +142,11 @@ exec_complete first_law law asked wanted status answer old new err err' known ca
     objects : HasObjects old.files asked.input h.links.files
     objects = h.links.objects
 
-    one : (other : Paid Event End) → HoldsExec old.files asked other → other ≡ can.run
+    one : (other : MeteredRun Event End) → HoldsExec old.files asked other → other ≡ can.run
     one other o = exec_one law old.files asked other can.run known o h
 
-    told : (s : Status) → HasRun (HoldsExec old.files asked) s old new → status ≡ s → (status ≡ wanted) ⊎ (status ≡ statuses.Memory)
-    told s has is = told_status (HoldsExec old.files asked) can.run wanted status s old new one can.status_is has is
+    seen : (s : Status) → HasRun (HoldsExec old.files asked) s old new → status ≡ s → (status ≡ wanted) ⊎ (status ≡ statuses.Memory)
+    seen s has is = seen_status (HoldsExec old.files asked) can.run wanted status s old new one can.status_is has is
 
     same : (files : List (List ℕ)) → HasObjects old.files asked.input files → files ≡ h.links.files
     same files o = same_files old.files asked.input.objects files h.links.files known o.held objects.held o.all objects.all
@@ -181,14 +181,14 @@ exec_complete first_law law asked wanted status answer old new err err' known ca
     failed (inr (inl f)) = not_unread_replies asked.settings.replies f.name h.file old new h.file_held f.is_name none.reads f.failed
     failed (inr (inr f)) = none.puts f.cause
 
-    by_answer : (answer : Answer) → ExecComesTo asked answer old new → Reports answer status err err' → (status ≡ wanted) ⊎ (status ≡ statuses.Memory)
-    by_answer answers.Done comes reports = told statuses.Done comes reports.0
-    by_answer answers.Panicked comes reports = told statuses.Panicked comes reports.0
-    by_answer answers.Faulted comes reports = told statuses.Faulted comes reports.0
-    by_answer answers.OutOfGas comes reports = told statuses.OutOfGas comes reports.0
-    by_answer answers.Unanswered comes reports = told statuses.Unanswered comes reports.0
-    by_answer answers.BadReply comes reports = told statuses.BadReply comes reports.0
-    by_answer (answers.Refused fault) comes reports = absurd (refused fault comes.0)
-    by_answer answers.Usage comes reports = absurd comes
-    by_answer answers.FileFault comes reports = absurd (failed comes)
-    by_answer answers.Memory comes reports = memory_status status wanted err err' none.err_puts reports
+    by_answer : (answer : Answer) → ExecResultsIn asked answer old new → Reports answer status err err' → (status ≡ wanted) ⊎ (status ≡ statuses.Memory)
+    by_answer answers.Done results reports = seen statuses.Done results reports.0
+    by_answer answers.Panicked results reports = seen statuses.Panicked results reports.0
+    by_answer answers.Faulted results reports = seen statuses.Faulted results reports.0
+    by_answer answers.OutOfGas results reports = seen statuses.OutOfGas results reports.0
+    by_answer answers.Unanswered results reports = seen statuses.Unanswered results reports.0
+    by_answer answers.BadReply results reports = seen statuses.BadReply results reports.0
+    by_answer (answers.Refused fault) results reports = absurd (refused fault results.0)
+    by_answer answers.Usage results reports = absurd results
+    by_answer answers.FileFault results reports = absurd (failed results)
+    by_answer answers.Memory results reports = memory_status status wanted err err' none.err_puts reports

@@ -12,7 +12,7 @@ use Rattle.transcript.specs.Hosts.{Reply}
 use Rattle.transcript.specs.Grammar.{replies_of}
 use Rattle.polkatool_cmd.specs.declared.answer.Answer.{Answer}
 use Rattle.polkatool_cmd.specs.declared.answer.Answer.TheVariants as answers
-use Rattle.polkatool_cmd.specs.Answers.{HasRepliesFault, ExecComesTo}
+use Rattle.polkatool_cmd.specs.Answers.{HasRepliesFault, ExecResultsIn}
 use Rattle.polkatool_cmd.specs.ExecWords.{ExecCommand}
 use Rattle.polkatool_cmd.specs.Faults.{file_too_large}
 use Rattle.polkatool_cmd.specs.LinkAnswers.{HasObjects}
@@ -29,11 +29,11 @@ pub replies_fault-none : (number : ℕ) (file : List ℕ) (replies : List Reply)
 replies_fault-none number file replies short is = rw (le-ltb (2 ^ 20) (length file) short, is) refl
 
 -- an exec whose file of replies wasn't read
-pub ExecComesTo-no_replies :
+pub ExecResultsIn-no_replies :
     (asked : ExecCommand) (answer : Answer) (old new : Snapshot) (files : List (List ℕ)) (number : ℕ) → HasObjects old.files asked.input files
     → number ≡ length files → FailsToReadReplies old.files asked.settings.replies number old.reads new.reads answer → new ≡ record old { reads = new.reads }
-    → ExecComesTo asked answer old new
-ExecComesTo-no_replies asked answer old new files number objects count fails others = by_name asked.settings.replies refl fails
+    → ExecResultsIn asked answer old new
+ExecResultsIn-no_replies asked answer old new files number objects count fails others = by_name asked.settings.replies refl fails
   where
     large : (name : List ℕ) (fault : Fault) → asked.settings.replies ≡ Some name → IsTooLarge old.files name (2 ^ 20) → fault ≡ file_too_large number → HasRepliesFault old.files asked fault
     large name fault is long fault_is = record {
@@ -46,7 +46,7 @@ ExecComesTo-no_replies asked answer old new files number objects count fails oth
           (ap (λ n. Some (file_too_large n)) (sym (count ∙ objects.all)) ∙ ap (λ f. Some f) (sym fault_is));
     }
 
-    by_answer : (name : List ℕ) → asked.settings.replies ≡ Some name → (answer : Answer) → FailsToReadOne old.files name number (2 ^ 20) old.reads new.reads answer → ExecComesTo asked answer old new
+    by_answer : (name : List ℕ) → asked.settings.replies ≡ Some name → (answer : Answer) → FailsToReadOne old.files name number (2 ^ 20) old.reads new.reads answer → ExecResultsIn asked answer old new
     by_answer name is answers.Done fails = absurd fails
     by_answer name is answers.Panicked fails = absurd fails
     by_answer name is answers.Faulted fails = absurd fails
@@ -59,7 +59,7 @@ ExecComesTo-no_replies asked answer old new files number objects count fails oth
         inr (inl (record { files = files; objects = objects; name = name; is_name = is; failed = record { later = fails.later; cause = fails.cause; others = others } }))
     by_answer name is answers.Memory fails = inl (unchanged old new others fails)
 
-    by_name : (o : Option (List ℕ)) → asked.settings.replies ≡ o → FailsToReadReplies old.files o number old.reads new.reads answer → ExecComesTo asked answer old new
+    by_name : (o : Option (List ℕ)) → asked.settings.replies ≡ o → FailsToReadReplies old.files o number old.reads new.reads answer → ExecResultsIn asked answer old new
     by_name None is fails = absurd fails
     by_name (Some name) is fails = by_answer name is answer fails
 

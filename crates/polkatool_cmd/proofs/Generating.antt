@@ -3,7 +3,7 @@ use Rattle.std.proofs.Common.{◌≡◌, ℕ, ◌-◌, List, [], ◌++◌, lengt
 use Rattle.std.specs.Prelude.{not, Result, Ok, Err}
 use Rattle.std.proofs.lemmas.Bool.{not-false}
 use Rattle.faults.proofs.Absent.{none-left, none-broken}
-use Rattle.runs.specs.Runs.{Paid}
+use Rattle.runs.specs.Runs.{MeteredRun}
 use Rattle.machine_state.specs.Ends.{Event, End, halt, no_host}
 use Rattle.blob_check.specs.Faults.{IsChecked}
 use Rattle.blob_check.specs.Starts.{is_start}
@@ -13,14 +13,14 @@ use Rattle.blob_codec.specs.Reading.{container_of}
 use Rattle.blob_codec.specs.declared.fault.BlobFault.{BlobFault}
 use Rattle.blob_codec.proofs.Containers.{container_again}
 use Rattle.pvm_machine.specs.Machine.{Machine}
-use Rattle.pvm_machine.specs.Ran.{run_of, Comes}
+use Rattle.pvm_machine.specs.Ran.{run_of, RunsTo}
 use Rattle.pvm_machine.specs.Started.{started}
 use Rattle.link_core.specs.Faults.{input_of, HasNoFault}
 use Rattle.link_core.specs.Linked.{IsLinked}
 use Rattle.link_core.specs.Parts.{total}
 use Rattle.link_core.specs.Runs.{machine_run}
-use Rattle.polkatool_cmd.specs.Blobs.{SpellsContainer, TellsText}
-use Rattle.polkatool_cmd.specs.GenerateAnswers.{generated_files, generated_wanted, generated_gas, IsGeneratedRun, HasHalted, HasNotHalted, line_of, GenerateComesTo}
+use Rattle.polkatool_cmd.specs.Blobs.{SpellsContainer, WritesText}
+use Rattle.polkatool_cmd.specs.GenerateAnswers.{generated_files, generated_wanted, generated_gas, IsGeneratedRun, HasHalted, HasNotHalted, line_of, GenerateResultsIn}
 use Rattle.polkatool_cmd.specs.GenerateWords.{GenerateCommand}
 use Rattle.polkatool_cmd.specs.Lines.{generated_line}
 use Rattle.polkatool_cmd.specs.Snapshot.{Stream}
@@ -58,48 +58,48 @@ module _ (asked : GenerateCommand) (container : Container)
   is_run : IsGeneratedRun asked container (machine_run no_host tt container 0 [] (generated_gas asked))
   is_run = record { no_fault = no_fault; is_linked = is_linked; run_is = refl }
 
-  came : (end : Option End) → Comes old new events end → machine_run no_host tt container 0 [] (generated_gas asked) ≡ record { events = events; end = end; left = new.gas; begun = old.gas - new.gas }
-  came end comes = ap run_of (sym started_is) ∙ comes
+  came : (end : Option End) → RunsTo old new events end → machine_run no_host tt container 0 [] (generated_gas asked) ≡ record { events = events; end = end; left = new.gas; begun = old.gas - new.gas }
+  came end results = ap run_of (sym started_is) ∙ results
 
   -- it halted
-  pub has-halted : Comes old new events (Some (halt new.state)) → HasHalted asked container (machine_run no_host tt container 0 [] (generated_gas asked)) new.state.registers
-  has-halted comes = record { is_run = is_run; memory = new.state.memory; halts = ap (λ (r : Paid Event End). r.end) (came _ comes) }
+  pub has-halted : RunsTo old new events (Some (halt new.state)) → HasHalted asked container (machine_run no_host tt container 0 [] (generated_gas asked)) new.state.registers
+  has-halted results = record { is_run = is_run; memory = new.state.memory; halts = ap (λ (r : MeteredRun Event End). r.end) (came _ results) }
 
   -- its line
   pub line-is :
-      (text : List ℕ) → Comes old new events (Some (halt new.state))
+      (text : List ℕ) → RunsTo old new events (Some (halt new.state))
       → text ≡ generated_line asked.seed asked.count (length container.program.code.bytes) (generated_gas asked - new.gas) new.state.registers
       → text ≡ line_of asked container (machine_run no_host tt container 0 [] (generated_gas asked)) new.state.registers
-  line-is text comes is =
+  line-is text results is =
       is
       ∙ ap (λ left. generated_line asked.seed asked.count (length container.program.code.bytes) (generated_gas asked - left) new.state.registers)
-      (sym (ap (λ (r : Paid Event End). r.left) (came _ comes)))
+      (sym (ap (λ (r : MeteredRun Event End). r.left) (came _ results)))
 
   -- it had another end
-  pub has-not_halted : (end : Option End) (status : Status) (out : Stream) → Comes old new events end → status_of end ≡ status → HasNotHalted asked status out out
-  has-not_halted end status out comes is = record {
+  pub has-not_halted : (end : Option End) (status : Status) (out : Stream) → RunsTo old new events end → status_of end ≡ status → HasNotHalted asked status out out
+  has-not_halted end status out results is = record {
     container = container;
     run = machine_run no_host tt container 0 [] (generated_gas asked);
     is_run = is_run;
-    ended = ap (λ (r : Paid Event End). status_of r.end) (came end comes) ∙ is;
+    ended = ap (λ (r : MeteredRun Event End). status_of r.end) (came end results) ∙ is;
     others = refl;
   }
 
 -- a run that halted, and whose line was put
-pub GenerateComesTo-told :
-    (asked : GenerateCommand) (container : Container) (run : Paid Event End) (registers : List ℕ) (answer : Answer) (old new : Stream)
+pub GenerateResultsIn-seen :
+    (asked : GenerateCommand) (container : Container) (run : MeteredRun Event End) (registers : List ℕ) (answer : Answer) (old new : Stream)
     → HasHalted asked container run registers
-    → TellsText None (line_of asked container run registers) answer old new
-    → GenerateComesTo asked answer old new
-GenerateComesTo-told asked container run registers answers.Done old new halted told =
-    record { container = container; run = run; registers = registers; has_halted = halted; told = told.1; puts = told.2 }
-GenerateComesTo-told asked container run registers answers.Panicked old new halted told = absurd told
-GenerateComesTo-told asked container run registers answers.Faulted old new halted told = absurd told
-GenerateComesTo-told asked container run registers answers.OutOfGas old new halted told = absurd told
-GenerateComesTo-told asked container run registers answers.Unanswered old new halted told = absurd told
-GenerateComesTo-told asked container run registers answers.BadReply old new halted told = absurd told
-GenerateComesTo-told asked container run registers (answers.Refused fault) old new halted told = let no = told.0 in absurd cc
-GenerateComesTo-told asked container run registers answers.Usage old new halted told = absurd told
-GenerateComesTo-told asked container run registers answers.FileFault old new halted told =
-    record { container = container; run = run; registers = registers; has_halted = halted; told = told.1; cause = told.2 }
-GenerateComesTo-told asked container run registers answers.Memory old new halted told = absurd told
+    → WritesText None (line_of asked container run registers) answer old new
+    → GenerateResultsIn asked answer old new
+GenerateResultsIn-seen asked container run registers answers.Done old new halted seen =
+    record { container = container; run = run; registers = registers; has_halted = halted; seen = seen.1; puts = seen.2 }
+GenerateResultsIn-seen asked container run registers answers.Panicked old new halted seen = absurd seen
+GenerateResultsIn-seen asked container run registers answers.Faulted old new halted seen = absurd seen
+GenerateResultsIn-seen asked container run registers answers.OutOfGas old new halted seen = absurd seen
+GenerateResultsIn-seen asked container run registers answers.Unanswered old new halted seen = absurd seen
+GenerateResultsIn-seen asked container run registers answers.BadReply old new halted seen = absurd seen
+GenerateResultsIn-seen asked container run registers (answers.Refused fault) old new halted seen = let no = seen.0 in absurd cc
+GenerateResultsIn-seen asked container run registers answers.Usage old new halted seen = absurd seen
+GenerateResultsIn-seen asked container run registers answers.FileFault old new halted seen =
+    record { container = container; run = run; registers = registers; has_halted = halted; seen = seen.1; cause = seen.2 }
+GenerateResultsIn-seen asked container run registers answers.Memory old new halted seen = absurd seen

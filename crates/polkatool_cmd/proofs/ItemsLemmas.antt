@@ -34,18 +34,18 @@ items-unvalued words [] word is none dash = ap items is ∙ alone_first word das
 items-unvalued words (next ∷ rest) word is none dash = absurd (omega (arith, none))
 
 setting_first :
-    (word value : List ℕ) (behind : List (List ℕ)) → begins_with_dash word ≡ true
-    → items (word ∷ value ∷ behind) ≡ Setting word value ∷ items behind
+    (word value : List ℕ) (after : List (List ℕ)) → begins_with_dash word ≡ true
+    → items (word ∷ value ∷ after) ≡ Setting word value ∷ items after
 unfolding items
-setting_first word value behind dash =
-    ap (λ d. cond d (Setting word value ∷ items behind) (File word ∷ items (value ∷ behind))) dash
+setting_first word value after dash =
+    ap (λ d. cond d (Setting word value ∷ items after) (File word ∷ items (value ∷ after))) dash
 
 -- an option with its value
 pub items-setting :
-    (words rest behind : List (List ℕ)) (word value : List ℕ) → words ≡ word ∷ rest → rest ≡ value ∷ behind
-    → begins_with_dash word ≡ true → items words ≡ Setting word value ∷ items behind
-items-setting words rest behind word value is more dash =
-    ap items is ∙ ap (λ r. items (word ∷ r)) more ∙ setting_first word value behind dash
+    (words rest after : List (List ℕ)) (word value : List ℕ) → words ≡ word ∷ rest → rest ≡ value ∷ after
+    → begins_with_dash word ≡ true → items words ≡ Setting word value ∷ items after
+items-setting words rest after word value is more dash =
+    ap items is ∙ ap (λ r. items (word ∷ r)) more ∙ setting_first word value after dash
 
 -- there are no more items than words
 items_within : (words : List (List ℕ)) → length (items words) ≤ length words

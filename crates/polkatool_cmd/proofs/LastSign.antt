@@ -9,11 +9,11 @@ abbrev pub NoneFrom : ℕ → List ℕ → Type 0
 NoneFrom end value = (k : ℕ) → end ≤ k → k < length value → is_equals_sign (get_or value k 0) ≡ false
 
 -- the part after the last '=' before `end`, if there is one
-behind_last :
+past_last :
     (end : ℕ) (value : List ℕ) → end ≤ length value → NoneFrom end value
     → (0 < end → is_equals_sign (get_or value (end - 1) 0) ≡ true)
     → length value - suffix_len (λ b. not (is_equals_sign b)) value ≡ end
-behind_last end value within other sign =
+past_last end value within other sign =
     let found = suffix_len_is (λ b. not (is_equals_sign b)) value end 0 within (λ k from below. ap not (other k from below)) (λ some. ap not (sign some)) in
     omega (arith, found)
 
@@ -21,10 +21,10 @@ pub before_last-sign :
     (end : ℕ) (value : List ℕ) → end ≤ length value → NoneFrom end value
     → (0 < end → is_equals_sign (get_or value (end - 1) 0) ≡ true)
     → before_last is_equals_sign value ≡ take (end - 1) value
-before_last-sign end value within other sign = ap (λ n. take (n - 1) value) (behind_last end value within other sign)
+before_last-sign end value within other sign = ap (λ n. take (n - 1) value) (past_last end value within other sign)
 
 pub after_last-sign :
     (end : ℕ) (value : List ℕ) → end ≤ length value → NoneFrom end value
     → (0 < end → is_equals_sign (get_or value (end - 1) 0) ≡ true)
     → after_last is_equals_sign value ≡ drop end value
-after_last-sign end value within other sign = ap (λ n. drop n value) (behind_last end value within other sign)
+after_last-sign end value within other sign = ap (λ n. drop n value) (past_last end value within other sign)

@@ -1,9 +1,9 @@
 -- The result of each command, and how it is reported.
 use Rattle.std.specs.Prelude.{◌≡◌, ◌<◌, ◌≤◌, ◌^◌, ◌⊎◌, ℕ, List, length, Option, Some, None, Ok}
 use Rattle.std.specs.Io.KnownBytes.{Appends}
-use Rattle.outside.specs.Outside.{Files, Rose, AppendsFront, KeepsOthers}
+use Rattle.outside.specs.Outside.{Files, Rose, AppendsPrefix, KeepsOthers}
 use Rattle.elf_objects.specs.declared.fault.Fault.{Fault}
-use Rattle.runs.specs.Runs.{Paid}
+use Rattle.runs.specs.Runs.{MeteredRun}
 use Rattle.runs.specs.Agree.{Agree}
 use Rattle.machine_state.specs.Ends.{Event, End}
 use Rattle.blob_codec.specs.Grammar.{Container}
@@ -13,7 +13,7 @@ use Rattle.pvm_machine.specs.Machine.{Machine}
 use Rattle.transcript.specs.Grammar.{replies_of}
 use Rattle.transcript.specs.Hosts.{Reply, answering, start_host}
 use Rattle.transcript.specs.Lines.{transcript}
-use Rattle.transcript.specs.Telling.{LacksMemory}
+use Rattle.transcript.specs.WritingRuns.{LacksMemory}
 use Rattle.link_core.specs.Faults.{input_of}
 use Rattle.link_core.specs.Runs.{source_run, machine_run}
 use Rattle.link_core.specs.Linked.{Linked}
@@ -21,8 +21,8 @@ use Rattle.polkatool_cmd.specs.Commands.{Command, Link, Run, Exec, Check, Disass
 use Rattle.polkatool_cmd.specs.RunWords.{RunCommand}
 use Rattle.polkatool_cmd.specs.ExecWords.{ExecCommand}
 use Rattle.polkatool_cmd.specs.Snapshot.{Snapshot, Stream, Holds, HasFault, FailedRead}
-use Rattle.polkatool_cmd.specs.LinkAnswers.{HasObjects, LinksFiles, HasLargeFile, HasObjectFault, FailedObject, LinkComesTo}
-use Rattle.polkatool_cmd.specs.GenerateAnswers.{GenerateComesTo}
+use Rattle.polkatool_cmd.specs.LinkAnswers.{HasObjects, LinksFiles, HasLargeFile, HasObjectFault, FailedObject, LinkResultsIn}
+use Rattle.polkatool_cmd.specs.GenerateAnswers.{GenerateResultsIn}
 use Rattle.polkatool_cmd.specs.BlobFaults.{first_disassemble_fault}
 use Rattle.polkatool_cmd.specs.RunFaults.{first_run_fault, first_start_fault, replies_fault}
 use Rattle.polkatool_cmd.specs.CheckFaults.{first_check_fault}
@@ -44,7 +44,7 @@ pub record HoldsContainer (first_of : List ℕ → Option Fault) (files : Option
 
 -- The files of a run hold a container without a fault at the entry and with the argument, and replies, and this is the
 -- container's run from there, with this argument, these replies and this gas.
-pub record HoldsRun (files : Option Files) (asked : RunCommand) (run : Paid Event End) : Type 0 where
+pub record HoldsRun (files : Option Files) (asked : RunCommand) (run : MeteredRun Event End) : Type 0 where
   pub blob : List ℕ
   pub blob_held : Holds files asked.blob blob
   pub file : List ℕ
@@ -65,11 +65,11 @@ pub record HasRunFault (files : Option Files) (asked : RunCommand) (fault : Faul
   pub first : first_run_fault asked.settings.entry asked.settings.argument blob file ≡ Some fault
 
 -- The run that was asked for ended with this status, and its transcript was put; all else is as before.
-pub record HasRun (IsAsked : Paid Event End → Type 0) (status : Status) (old new : Snapshot) : Type 0 where
-  pub run : Paid Event End
+pub record HasRun (IsAsked : MeteredRun Event End → Type 0) (status : Status) (old new : Snapshot) : Type 0 where
+  pub run : MeteredRun Event End
   pub is_run : IsAsked run
   pub ended : status_of run.end ≡ status
-  pub told : Appends old.out new.out (transcript run)
+  pub seen : Appends old.out new.out (transcript run)
   pub others : new ≡ record old { out = new.out }
 
 -- The blob's file was read and isn't too large, and the file of replies is missing or its read failed; all else is as
@@ -83,17 +83,17 @@ pub record FailedReplies (asked : RunCommand) (old new : Snapshot) : Type 0 wher
   pub failed : FailedRead name old new
 
 -- A put of the run's transcript failed after a prefix of it; all else is as before.
-pub record FailedTranscript (IsAsked : Paid Event End → Type 0) (old new : Snapshot) : Type 0 where
-  pub run : Paid Event End
+pub record FailedTranscript (IsAsked : MeteredRun Event End → Type 0) (old new : Snapshot) : Type 0 where
+  pub run : MeteredRun Event End
   pub is_run : IsAsked run
-  pub told : AppendsFront old.out new.out (transcript run)
+  pub seen : AppendsPrefix old.out new.out (transcript run)
   pub cause : Rose old.puts new.puts
   pub others : new ≡ record old { out = new.out; puts = new.puts }
 
 -- An allocation failed when the run reached an `sbrk` that would map pages, or a call on inner machines that allocates.
 -- The lines of the calls up to there were written, a prefix of the transcript; all else is as before.
-pub record StoppedRun (IsAsked : Paid Event End → Type 0) (old new : Snapshot) : Type 0 where
-  pub run : Paid Event End
+pub record StoppedRun (IsAsked : MeteredRun Event End → Type 0) (old new : Snapshot) : Type 0 where
+  pub run : MeteredRun Event End
   pub is_run : IsAsked run
   pub machine : Machine
   pub stopped : LacksMemory run machine (record { text = old.out; puts = old.puts }) (record { text = new.out; puts = new.puts })
@@ -102,23 +102,23 @@ pub record StoppedRun (IsAsked : Paid Event End → Type 0) (old new : Snapshot)
 -- The result of a run: it ended, as the answer says, and its transcript is written; or it is refused with the first fault
 -- of its files, the entry and the argument; or a read or a write failed; or an allocation failed, before anything was
 -- written or at an `sbrk` or a call. After a refusal all is as before.
-abbrev pub RunComesTo : RunCommand → Answer → Snapshot → Snapshot → Type 0
-RunComesTo asked answers.Done old new = HasRun (HoldsRun old.files asked) statuses.Done old new
-RunComesTo asked answers.Panicked old new = HasRun (HoldsRun old.files asked) statuses.Panicked old new
-RunComesTo asked answers.Faulted old new = HasRun (HoldsRun old.files asked) statuses.Faulted old new
-RunComesTo asked answers.OutOfGas old new = HasRun (HoldsRun old.files asked) statuses.OutOfGas old new
-RunComesTo asked answers.Unanswered old new = HasRun (HoldsRun old.files asked) statuses.Unanswered old new
-RunComesTo asked answers.BadReply old new = HasRun (HoldsRun old.files asked) statuses.BadReply old new
-RunComesTo asked (answers.Refused fault) old new = HasRunFault old.files asked fault × (new ≡ old)
-RunComesTo asked answers.Usage old new = ⊥
-RunComesTo asked answers.FileFault old new =
+abbrev pub RunResultsIn : RunCommand → Answer → Snapshot → Snapshot → Type 0
+RunResultsIn asked answers.Done old new = HasRun (HoldsRun old.files asked) statuses.Done old new
+RunResultsIn asked answers.Panicked old new = HasRun (HoldsRun old.files asked) statuses.Panicked old new
+RunResultsIn asked answers.Faulted old new = HasRun (HoldsRun old.files asked) statuses.Faulted old new
+RunResultsIn asked answers.OutOfGas old new = HasRun (HoldsRun old.files asked) statuses.OutOfGas old new
+RunResultsIn asked answers.Unanswered old new = HasRun (HoldsRun old.files asked) statuses.Unanswered old new
+RunResultsIn asked answers.BadReply old new = HasRun (HoldsRun old.files asked) statuses.BadReply old new
+RunResultsIn asked (answers.Refused fault) old new = HasRunFault old.files asked fault × (new ≡ old)
+RunResultsIn asked answers.Usage old new = ⊥
+RunResultsIn asked answers.FileFault old new =
     FailedRead asked.blob old new ⊎ (FailedReplies asked old new ⊎ FailedTranscript (HoldsRun old.files asked) old new)
-RunComesTo asked answers.Memory old new = (new ≡ old) ⊎ StoppedRun (HoldsRun old.files asked) old new
+RunResultsIn asked answers.Memory old new = (new ≡ old) ⊎ StoppedRun (HoldsRun old.files asked) old new
 
 -- The files of an exec's objects are linked, the file of replies has replies, and this is the linked program's run from
 -- the entry, with the argument, these replies and this gas. The run agrees with that of the objects, where there is such
 -- an entry.
-pub record HoldsExec (files : Option Files) (asked : ExecCommand) (run : Paid Event End) : Type 0 where
+pub record HoldsExec (files : Option Files) (asked : ExecCommand) (run : MeteredRun Event End) : Type 0 where
   pub linked : Linked
   pub links : LinksFiles files asked.input linked
   pub file : List ℕ
@@ -133,26 +133,26 @@ pub record HoldsExec (files : Option Files) (asked : ExecCommand) (run : Paid Ev
       (machine_run answering (start_host replies) links.holds.container asked.settings.entry asked.settings.argument)
 
 -- The objects' files are read, and the file of replies has this fault.
-pub record HasRepliesFault (told : Option Files) (asked : ExecCommand) (fault : Fault) : Type 0 where
+pub record HasRepliesFault (seen : Option Files) (asked : ExecCommand) (fault : Fault) : Type 0 where
   pub files : List (List ℕ)
-  pub objects : HasObjects told asked.input files
+  pub objects : HasObjects seen asked.input files
   pub file : List ℕ
-  pub file_held : HoldsReplies told asked.settings.replies file
+  pub file_held : HoldsReplies seen asked.settings.replies file
   pub first : replies_fault (length asked.input.objects) file ≡ Some fault
 
 -- The file of replies has no fault, and this is the first fault of the objects.
-pub record HasLinkFault (told : Option Files) (asked : ExecCommand) (fault : Fault) : Type 0 where
+pub record HasLinkFault (seen : Option Files) (asked : ExecCommand) (fault : Fault) : Type 0 where
   pub file : List ℕ
-  pub file_held : HoldsReplies told asked.settings.replies file
+  pub file_held : HoldsReplies seen asked.settings.replies file
   pub no_fault : replies_fault (length asked.input.objects) file ≡ None
-  pub object_fault : HasObjectFault told asked.input fault
+  pub object_fault : HasObjectFault seen asked.input fault
 
 -- The objects are linked, and the linked program can't be started, with this fault.
-pub record HasStartFault (told : Option Files) (asked : ExecCommand) (fault : Fault) : Type 0 where
+pub record HasStartFault (seen : Option Files) (asked : ExecCommand) (fault : Fault) : Type 0 where
   pub linked : Linked
-  pub links : LinksFiles told asked.input linked
+  pub links : LinksFiles seen asked.input linked
   pub file : List ℕ
-  pub file_held : HoldsReplies told asked.settings.replies file
+  pub file_held : HoldsReplies seen asked.settings.replies file
   pub no_fault : replies_fault (length asked.input.objects) file ≡ None
   pub first : first_start_fault asked.settings.entry asked.settings.argument linked.container ≡ Some fault
 
@@ -168,26 +168,26 @@ pub record FailedExecReplies (asked : ExecCommand) (old new : Snapshot) : Type 0
 -- first file that is too large, or else the first fault of the file of replies, of the objects, or of the start; or a read
 -- or a write failed; or an allocation failed, before anything was written or at an `sbrk` or a call. After a refusal all is
 -- as before.
-abbrev pub ExecComesTo : ExecCommand → Answer → Snapshot → Snapshot → Type 0
-ExecComesTo asked answers.Done old new = HasRun (HoldsExec old.files asked) statuses.Done old new
-ExecComesTo asked answers.Panicked old new = HasRun (HoldsExec old.files asked) statuses.Panicked old new
-ExecComesTo asked answers.Faulted old new = HasRun (HoldsExec old.files asked) statuses.Faulted old new
-ExecComesTo asked answers.OutOfGas old new = HasRun (HoldsExec old.files asked) statuses.OutOfGas old new
-ExecComesTo asked answers.Unanswered old new = HasRun (HoldsExec old.files asked) statuses.Unanswered old new
-ExecComesTo asked answers.BadReply old new = HasRun (HoldsExec old.files asked) statuses.BadReply old new
-ExecComesTo asked (answers.Refused fault) old new =
+abbrev pub ExecResultsIn : ExecCommand → Answer → Snapshot → Snapshot → Type 0
+ExecResultsIn asked answers.Done old new = HasRun (HoldsExec old.files asked) statuses.Done old new
+ExecResultsIn asked answers.Panicked old new = HasRun (HoldsExec old.files asked) statuses.Panicked old new
+ExecResultsIn asked answers.Faulted old new = HasRun (HoldsExec old.files asked) statuses.Faulted old new
+ExecResultsIn asked answers.OutOfGas old new = HasRun (HoldsExec old.files asked) statuses.OutOfGas old new
+ExecResultsIn asked answers.Unanswered old new = HasRun (HoldsExec old.files asked) statuses.Unanswered old new
+ExecResultsIn asked answers.BadReply old new = HasRun (HoldsExec old.files asked) statuses.BadReply old new
+ExecResultsIn asked (answers.Refused fault) old new =
     (HasLargeFile old.files asked.input fault ⊎ (HasRepliesFault old.files asked fault ⊎ (HasLinkFault old.files asked fault ⊎ HasStartFault old.files asked fault))) × (new ≡ old)
-ExecComesTo asked answers.Usage old new = ⊥
-ExecComesTo asked answers.FileFault old new =
+ExecResultsIn asked answers.Usage old new = ⊥
+ExecResultsIn asked answers.FileFault old new =
     FailedObject asked.input old new ⊎ (FailedExecReplies asked old new ⊎ FailedTranscript (HoldsExec old.files asked) old new)
-ExecComesTo asked answers.Memory old new = (new ≡ old) ⊎ StoppedRun (HoldsExec old.files asked) old new
+ExecResultsIn asked answers.Memory old new = (new ≡ old) ⊎ StoppedRun (HoldsExec old.files asked) old new
 
 -- The name holds a container without such a fault, and its text was put; all else is as before.
-pub record HasTold (first_of : List ℕ → Option Fault) (text_of : Container → List ℕ) (blob : List ℕ)
+pub record HasWritten (first_of : List ℕ → Option Fault) (text_of : Container → List ℕ) (blob : List ℕ)
     (old new : Snapshot) : Type 0 where
   pub container : Container
   pub holds : HoldsContainer first_of old.files blob container
-  pub told : Appends old.out new.out (text_of container)
+  pub seen : Appends old.out new.out (text_of container)
   pub others : new ≡ record old { out = new.out }
 
 -- A write of the container's text failed after a prefix of it; all else is as before.
@@ -195,50 +195,50 @@ pub record FailedText (first_of : List ℕ → Option Fault) (text_of : Containe
     (old new : Snapshot) : Type 0 where
   pub container : Container
   pub holds : HoldsContainer first_of old.files blob container
-  pub told : AppendsFront old.out new.out (text_of container)
+  pub seen : AppendsPrefix old.out new.out (text_of container)
   pub cause : Rose old.puts new.puts
   pub others : new ≡ record old { out = new.out; puts = new.puts }
 
 -- The result of a command that writes a text of a container: the text is written; or the command is refused with the
 -- first fault of the blob's file; or a read or a write failed; or an allocation failed. After a refusal and after a failed
 -- allocation all is as before.
-abbrev pub TextComesTo : (List ℕ → Option Fault) → (Container → List ℕ) → List ℕ → Answer → Snapshot → Snapshot → Type 0
-TextComesTo first_of text_of blob answers.Done old new = HasTold first_of text_of blob old new
-TextComesTo first_of text_of blob (answers.Refused fault) old new =
+abbrev pub TextResultsIn : (List ℕ → Option Fault) → (Container → List ℕ) → List ℕ → Answer → Snapshot → Snapshot → Type 0
+TextResultsIn first_of text_of blob answers.Done old new = HasWritten first_of text_of blob old new
+TextResultsIn first_of text_of blob (answers.Refused fault) old new =
     HasFault first_of old.files blob (Some fault) × (new ≡ old)
-TextComesTo first_of text_of blob answers.Panicked old new = ⊥
-TextComesTo first_of text_of blob answers.Faulted old new = ⊥
-TextComesTo first_of text_of blob answers.OutOfGas old new = ⊥
-TextComesTo first_of text_of blob answers.Unanswered old new = ⊥
-TextComesTo first_of text_of blob answers.BadReply old new = ⊥
-TextComesTo first_of text_of blob answers.Usage old new = ⊥
-TextComesTo first_of text_of blob answers.FileFault old new =
+TextResultsIn first_of text_of blob answers.Panicked old new = ⊥
+TextResultsIn first_of text_of blob answers.Faulted old new = ⊥
+TextResultsIn first_of text_of blob answers.OutOfGas old new = ⊥
+TextResultsIn first_of text_of blob answers.Unanswered old new = ⊥
+TextResultsIn first_of text_of blob answers.BadReply old new = ⊥
+TextResultsIn first_of text_of blob answers.Usage old new = ⊥
+TextResultsIn first_of text_of blob answers.FileFault old new =
     FailedRead blob old new ⊎ FailedText first_of text_of blob old new
-TextComesTo first_of text_of blob answers.Memory old new = new ≡ old
+TextResultsIn first_of text_of blob answers.Memory old new = new ≡ old
 
 -- the result of a check: its text says that there is no fault
-abbrev pub CheckComesTo : List ℕ → Answer → Snapshot → Snapshot → Type 0
-CheckComesTo blob answer old new = TextComesTo first_check_fault (λ c. ok_text) blob answer old new
+abbrev pub CheckResultsIn : List ℕ → Answer → Snapshot → Snapshot → Type 0
+CheckResultsIn blob answer old new = TextResultsIn first_check_fault (λ c. ok_text) blob answer old new
 
 -- the result of a disassembly: the text, and every container has one
-abbrev pub DisassembleComesTo : List ℕ → Answer → Snapshot → Snapshot → Type 0
-DisassembleComesTo blob answer old new =
-    TextComesTo first_disassemble_fault (λ c. disassembly c.program) blob answer old new
+abbrev pub DisassembleResultsIn : List ℕ → Answer → Snapshot → Snapshot → Type 0
+DisassembleResultsIn blob answer old new =
+    TextResultsIn first_disassemble_fault (λ c. disassembly c.program) blob answer old new
 
 -- The result of a command that reads and writes no file: what comes of standard output; all else is as before.
-pub record OnOutput (Comes : Stream → Stream → Type 0) (old new : Snapshot) : Type 0 where
-  pub comes : Comes (record { text = old.out; puts = old.puts }) (record { text = new.out; puts = new.puts })
+pub record OnOutput (Results : Stream → Stream → Type 0) (old new : Snapshot) : Type 0 where
+  pub results : Results (record { text = old.out; puts = old.puts }) (record { text = new.out; puts = new.puts })
   pub others : new ≡ record old { out = new.out; puts = new.puts }
 
 -- The result of the arguments: a usage error is reported as one, and all is as before.
-abbrev pub ComesTo : Option Command → Answer → Snapshot → Snapshot → Type 0
-ComesTo None answer old new = (answer ≡ answers.Usage) × (new ≡ old)
-ComesTo (Some (Link link)) answer old new = LinkComesTo link answer old new
-ComesTo (Some (Run run)) answer old new = RunComesTo run answer old new
-ComesTo (Some (Exec exec)) answer old new = ExecComesTo exec answer old new
-ComesTo (Some (Check blob)) answer old new = CheckComesTo blob answer old new
-ComesTo (Some (Disassemble blob)) answer old new = DisassembleComesTo blob answer old new
-ComesTo (Some (Generate asked)) answer old new = OnOutput (GenerateComesTo asked answer) old new
+abbrev pub ResultsIn : Option Command → Answer → Snapshot → Snapshot → Type 0
+ResultsIn None answer old new = (answer ≡ answers.Usage) × (new ≡ old)
+ResultsIn (Some (Link link)) answer old new = LinkResultsIn link answer old new
+ResultsIn (Some (Run run)) answer old new = RunResultsIn run answer old new
+ResultsIn (Some (Exec exec)) answer old new = ExecResultsIn exec answer old new
+ResultsIn (Some (Check blob)) answer old new = CheckResultsIn blob answer old new
+ResultsIn (Some (Disassemble blob)) answer old new = DisassembleResultsIn blob answer old new
+ResultsIn (Some (Generate asked)) answer old new = OnOutput (GenerateResultsIn asked answer) old new
 
 -- the line was written to standard error, and the status is the wanted one
 pub record IsPut (line : List ℕ) (wanted status : Status) (old new : Stream) : Type 0 where
@@ -249,7 +249,7 @@ pub record IsPut (line : List ℕ) (wanted status : Status) (old new : Stream) :
 -- the write failed after a prefix of the line, and the status is that of a file fault
 pub record IsNotPut (line : List ℕ) (status : Status) (old new : Stream) : Type 0 where
   pub status_is : status ≡ statuses.FileFault
-  pub put : AppendsFront old.text new.text line
+  pub put : AppendsPrefix old.text new.text line
   pub cause : Rose old.puts new.puts
 
 abbrev pub Puts : List ℕ → Status → Status → Stream → Stream → Type 0
@@ -271,7 +271,7 @@ Reports answers.Memory status old new = Puts memory_line statuses.Memory status 
 -- The result of the arguments is reported.
 pub record Concludes (command : Option Command) (status : Status) (old new : Snapshot) (err err' : Stream) : Type 0 where
   pub answer : Answer
-  pub comes : ComesTo command answer old new
+  pub results : ResultsIn command answer old new
   pub reports : Reports answer status err err'
 
 -- Every name but the output of a link holds what it held; with another command, or without one, every name does.

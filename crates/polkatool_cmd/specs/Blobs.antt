@@ -1,7 +1,7 @@
 -- The results of the parts of a command that reads a container.
 use Rattle.std.specs.Prelude.{◌≡◌, ◌⊎◌, ℕ, ◌^◌, ◌<◌, ◌≤◌, List, length, Option, Some, None}
 use Rattle.std.specs.Io.KnownBytes.{Appends}
-use Rattle.outside.specs.Outside.{Files, Rose, Missing, AppendsFront}
+use Rattle.outside.specs.Outside.{Files, Rose, Missing, AppendsPrefix}
 use Rattle.elf_objects.specs.declared.fault.Fault.{Fault}
 use Rattle.blob_codec.specs.Grammar.{Container, IsContainer, container_bytes}
 use Rattle.polkatool_cmd.specs.Faults.{too_large}
@@ -34,10 +34,10 @@ FailsToReadBlob files name before now answer = ⊥
 
 -- how the text of a container is written to a sink: the whole text, or a write failed after a prefix of it; if there is
 -- a fault, the answer is that one, and nothing is written
-abbrev pub TellsText : Option Fault → List ℕ → Answer → Stream → Stream → Type 0
-TellsText fault text answers.Done old new =
+abbrev pub WritesText : Option Fault → List ℕ → Answer → Stream → Stream → Type 0
+WritesText fault text answers.Done old new =
     (fault ≡ None) × Appends old.text new.text text × (new.puts ≡ old.puts)
-TellsText fault text answers.FileFault old new =
-    (fault ≡ None) × AppendsFront old.text new.text text × Rose old.puts new.puts
-TellsText fault text (answers.Refused told) old new = (fault ≡ Some told) × (new ≡ old)
-TellsText fault text answer old new = ⊥
+WritesText fault text answers.FileFault old new =
+    (fault ≡ None) × AppendsPrefix old.text new.text text × Rose old.puts new.puts
+WritesText fault text (answers.Refused seen) old new = (fault ≡ Some seen) × (new ≡ old)
+WritesText fault text answer old new = ⊥

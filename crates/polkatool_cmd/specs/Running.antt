@@ -1,7 +1,7 @@
 -- The results of the parts of a run.
 use Rattle.std.specs.Prelude.{◌≡◌, ℕ, ◌^◌, ◌≤◌, List, [], length, Option, Some, None, Ok}
 use Rattle.std.specs.Io.KnownBytes.{Appends}
-use Rattle.runs.specs.Runs.{Paid}
+use Rattle.runs.specs.Runs.{MeteredRun}
 use Rattle.machine_state.specs.Ends.{Event, End}
 use Rattle.outside.specs.Outside.{Files}
 use Rattle.blob_codec.specs.Grammar.{Container}
@@ -9,7 +9,7 @@ use Rattle.blob_codec.specs.Reading.{container_of}
 use Rattle.pvm_machine.specs.Machine.{Machine}
 use Rattle.pvm_machine.specs.Started.{started}
 use Rattle.transcript.specs.Lines.{transcript}
-use Rattle.transcript.specs.Telling.{IsCutOff, LacksMemory}
+use Rattle.transcript.specs.WritingRuns.{IsCutOff, LacksMemory}
 use Rattle.polkatool_cmd.specs.RunWords.{Settings}
 use Rattle.polkatool_cmd.specs.RunFaults.{first_start_fault}
 use Rattle.polkatool_cmd.specs.Linking.{FailsToReadOne}
@@ -60,20 +60,20 @@ EndsAs answers.BadReply status = status ≡ statuses.BadReply
 EndsAs answer status = ⊥
 
 -- the run ended with the status, and its transcript was put
-pub record IsTold (run : Paid Event End) (status : Status) (old new : Stream) : Type 0 where
+pub record RunIsWritten (run : MeteredRun Event End) (status : Status) (old new : Stream) : Type 0 where
   pub ended : status_of run.end ≡ status
-  pub told : Appends old.text new.text (transcript run)
+  pub seen : Appends old.text new.text (transcript run)
   pub puts : new.puts ≡ old.puts
 
 -- How a run is written to a sink: its whole transcript; or a write failed after a prefix of it; or an allocation failed
 -- at the machine's instruction.
-abbrev pub Tells : Paid Event End → Machine → Answer → Stream → Stream → Type 0
-Tells run m answers.Done old new = IsTold run statuses.Done old new
-Tells run m answers.Panicked old new = IsTold run statuses.Panicked old new
-Tells run m answers.Faulted old new = IsTold run statuses.Faulted old new
-Tells run m answers.OutOfGas old new = IsTold run statuses.OutOfGas old new
-Tells run m answers.Unanswered old new = IsTold run statuses.Unanswered old new
-Tells run m answers.BadReply old new = IsTold run statuses.BadReply old new
-Tells run m answers.FileFault old new = IsCutOff run old new
-Tells run m answers.Memory old new = LacksMemory run m old new
-Tells run m answer old new = ⊥
+abbrev pub WritesRun : MeteredRun Event End → Machine → Answer → Stream → Stream → Type 0
+WritesRun run m answers.Done old new = RunIsWritten run statuses.Done old new
+WritesRun run m answers.Panicked old new = RunIsWritten run statuses.Panicked old new
+WritesRun run m answers.Faulted old new = RunIsWritten run statuses.Faulted old new
+WritesRun run m answers.OutOfGas old new = RunIsWritten run statuses.OutOfGas old new
+WritesRun run m answers.Unanswered old new = RunIsWritten run statuses.Unanswered old new
+WritesRun run m answers.BadReply old new = RunIsWritten run statuses.BadReply old new
+WritesRun run m answers.FileFault old new = IsCutOff run old new
+WritesRun run m answers.Memory old new = LacksMemory run m old new
+WritesRun run m answer old new = ⊥

@@ -1,7 +1,7 @@
 -- What is outside the program, as contracts see it, and how a file is read from it.
 use Rattle.std.specs.Prelude.{◌≡◌, ◌≤◌, ◌⊎◌, ℕ, List, Option}
 use Rattle.outside.specs.Outside.{Files, Rose, Missing, AnswersWrite}
-pub use Rattle.transcript.specs.Telling.{Stream}
+pub use Rattle.transcript.specs.WritingRuns.{Stream}
 use Rattle.elf_objects.specs.declared.fault.Fault.{Fault}
 
 -- The contents of the folder and of standard output, and how many reads and writes have failed.

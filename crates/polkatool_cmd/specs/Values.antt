@@ -21,9 +21,9 @@ abbrev pub is_file : List ℕ → Bool
 is_file word = is_name word && not (begins_with_dash word)
 
 -- the number spelled by the digits of a number and these bytes after them, if all are digits
-unfoldable pub digits_behind : ℕ → List ℕ → Option ℕ
-digits_behind n [] = Some n
-digits_behind n (b ∷ bs) = if is_ascii_digit b then digits_behind (10 * n + (b - 48)) bs else None
+unfoldable pub digits_after : ℕ → List ℕ → Option ℕ
+digits_after n [] = Some n
+digits_after n (b ∷ bs) = if is_ascii_digit b then digits_after (10 * n + (b - 48)) bs else None
 
 -- a number below a bound
 abbrev pub below : ℕ → Option ℕ → Option ℕ
@@ -33,8 +33,8 @@ below bound (Some n) = if nat_lt n bound then Some n else None
 -- The number below a bound that a word spells: decimal digits without a leading zero, but for 0 itself.
 abbrev pub number_below : ℕ → List ℕ → Option ℕ
 number_below bound [] = None
-number_below bound (b ∷ []) = below bound (digits_behind 0 (b ∷ []))
-number_below bound (b ∷ c ∷ bs) = if b == 48 then None else below bound (digits_behind 0 (b ∷ c ∷ bs))
+number_below bound (b ∷ []) = below bound (digits_after 0 (b ∷ []))
+number_below bound (b ∷ c ∷ bs) = if b == 48 then None else below bound (digits_after 0 (b ∷ c ∷ bs))
 
 -- the name of a file that a word is
 abbrev pub file_of : List ℕ → Option (List ℕ)

@@ -4,8 +4,8 @@ ghost use Rattle.std.specs.Prelude.{◌≡◌, Some};
 ghost use Rattle.polkatool_cmd.specs.Commands.{Check};
 ghost use Rattle.polkatool_cmd.specs.CheckFaults.{check_fault, check_fault_in};
 ghost use Rattle.polkatool_cmd.specs.Lines.{ok_text};
-ghost use Rattle.polkatool_cmd.specs.Answers.{ComesTo};
-ghost use Rattle.polkatool_cmd.specs.Blobs.{TellsText};
+ghost use Rattle.polkatool_cmd.specs.Answers.{ResultsIn};
+ghost use Rattle.polkatool_cmd.specs.Blobs.{WritesText};
 
 use crate::answer::Answer;
 use crate::blob::{blob_fault, blob_fault_at, container_in, read_blob};
@@ -26,7 +26,7 @@ pub(crate) fn check_blob<F: Folder, O: Sink>(
     files: &mut F,
     out: &mut O,
 ) -> Answer
-    ensures comes { ComesTo (Some (Check blob.now)) result
+    ensures results { ResultsIn (Some (Check blob.now)) result
         (record {
           files = F.files files.old;
           reads = F.read_faults files.old;
@@ -48,14 +48,14 @@ pub(crate) fn check_blob<F: Folder, O: Sink>(
         Err(answer) => return answer,
     };
     match container_in(file.as_slice()) {
-        Ok(container) => tell_check(&container, out),
+        Ok(container) => write_check(&container, out),
         Err(fault) => Answer::Refused(fault),
     }
 }
 
 /// Checks the program of a container, and puts that it has no fault.
-fn tell_check<O: Sink>(container: &Container<'_>, out: &mut O) -> Answer
-    ensures { TellsText (check_fault_in container.now) ok_text result
+fn write_check<O: Sink>(container: &Container<'_>, out: &mut O) -> Answer
+    ensures { WritesText (check_fault_in container.now) ok_text result
         (record { text = O.bytes out.old; puts = O.faults out.old })
         (record { text = O.bytes out.new; puts = O.faults out.new }) }
 {

@@ -1,5 +1,5 @@
 ghost use Rattle.polkatool_cmd.specs.Commands.{command_of};
-ghost use Rattle.polkatool_cmd.specs.Answers.{ComesTo, KeepsFiles};
+ghost use Rattle.polkatool_cmd.specs.Answers.{ResultsIn, KeepsFiles};
 
 use crate::answer::Answer;
 use crate::check::check_blob;
@@ -20,7 +20,7 @@ pub(crate) fn answer_to<F: Folder, O: Sink>(
     files: &mut F,
     out: &mut O,
 ) -> Answer
-    ensures comes { ComesTo (command_of words.now) result
+    ensures results { ResultsIn (command_of words.now) result
         (record {
           files = F.files files.old;
           reads = F.read_faults files.old;

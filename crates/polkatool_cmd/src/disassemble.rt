@@ -3,8 +3,8 @@
 ghost use Rattle.std.specs.Prelude.{◌≡◌, ◌≤◌, ◌^◌, Some, None, length};
 ghost use Rattle.disasm.specs.Disassembly.{disassembly};
 ghost use Rattle.polkatool_cmd.specs.Commands.{Disassemble};
-ghost use Rattle.polkatool_cmd.specs.Answers.{ComesTo};
-ghost use Rattle.polkatool_cmd.specs.Blobs.{TellsText};
+ghost use Rattle.polkatool_cmd.specs.Answers.{ResultsIn};
+ghost use Rattle.polkatool_cmd.specs.Blobs.{WritesText};
 
 use crate::answer::Answer;
 use crate::blob::{container_in, read_blob};
@@ -20,7 +20,7 @@ pub(crate) fn disassemble_blob<F: Folder, O: Sink>(
     files: &mut F,
     out: &mut O,
 ) -> Answer
-    ensures comes { ComesTo (Some (Disassemble blob.now)) result
+    ensures results { ResultsIn (Some (Disassemble blob.now)) result
         (record {
           files = F.files files.old;
           reads = F.read_faults files.old;
@@ -42,15 +42,15 @@ pub(crate) fn disassemble_blob<F: Folder, O: Sink>(
         Err(answer) => return answer,
     };
     match container_in(file.as_slice()) {
-        Ok(container) => tell_program(&container, out),
+        Ok(container) => write_text(&container, out),
         Err(fault) => Answer::Refused(fault),
     }
 }
 
 /// Puts the text of the program of a container.
-fn tell_program<O: Sink>(container: &Container<'_>, out: &mut O) -> Answer
+fn write_text<O: Sink>(container: &Container<'_>, out: &mut O) -> Answer
     requires { length container.now.program.code.bytes ≤ 2 ^ 32 }
-    ensures { TellsText None (disassembly container.now.program) result
+    ensures { WritesText None (disassembly container.now.program) result
         (record { text = O.bytes out.old; puts = O.faults out.old })
         (record { text = O.bytes out.new; puts = O.faults out.new }) }
 {

@@ -3,7 +3,7 @@
 ghost use Rattle.std.specs.Prelude.{◌≡◌, Some};
 ghost use Rattle.polkatool_cmd.specs.Commands.{Exec};
 ghost use Rattle.polkatool_cmd.specs.ExecRead.{exec_in};
-ghost use Rattle.polkatool_cmd.specs.Answers.{ComesTo};
+ghost use Rattle.polkatool_cmd.specs.Answers.{ResultsIn};
 
 use crate::answer::Answer;
 use crate::commands::ExecCommand;
@@ -22,7 +22,7 @@ pub(crate) fn exec<F: Folder, O: Sink>(
     files: &mut F,
     out: &mut O,
 ) -> Answer
-    ensures comes { ComesTo (Some (Exec (exec_in command.now))) result
+    ensures results { ResultsIn (Some (Exec (exec_in command.now))) result
         (record {
           files = F.files files.old;
           reads = F.read_faults files.old;

@@ -38,11 +38,11 @@ fn are_of_exec(words: &[Bytes]) -> bool
     ensures { result ≡ list_all is_of_exec (items words.now) }
 {
     let mut rest = words;
-    while let Some((item, behind)) = first_item(rest) {
+    while let Some((item, after)) = first_item(rest) {
         if !item.is_of_exec() {
             return false;
         }
-        rest = behind;
+        rest = after;
     }
     true
 }

@@ -7,9 +7,9 @@ ghost use Rattle.link_core.specs.Faults.{input_of, HasNoFault, HasFirstFault, Re
 ghost use Rattle.link_core.specs.Linked.{HoldsLinked, IsLinked};
 ghost use Rattle.pvm_machine.specs.Started.{started};
 ghost use Rattle.blob_codec.specs.Reading.{container_of};
-ghost use Rattle.polkatool_cmd.specs.GenerateAnswers.{generated_files, generated_wanted, GenerateComesTo};
+ghost use Rattle.polkatool_cmd.specs.GenerateAnswers.{generated_files, generated_wanted, GenerateResultsIn};
 ghost use Rattle.polkatool_cmd.specs.GenerateRead.{generate_in};
-ghost use Rattle.polkatool_cmd.specs.Blobs.{SpellsContainer, TellsText};
+ghost use Rattle.polkatool_cmd.specs.Blobs.{SpellsContainer, WritesText};
 ghost use Rattle.polkatool_cmd.specs.Lines.{generated_line, value_field};
 
 use crate::answer::Answer;
@@ -29,7 +29,7 @@ use symbols::Wanted;
 
 /// Makes an object, links it and runs its program, and puts the line of the run.
 pub(crate) fn generate<O: Sink>(alloc: Global, command: &GenerateCommand, out: &mut O) -> Answer
-    ensures { GenerateComesTo (generate_in command.now) result
+    ensures { GenerateResultsIn (generate_in command.now) result
         (record { text = O.bytes out.old; puts = O.faults out.old })
         (record { text = O.bytes out.new; puts = O.faults out.new }) }
 {
@@ -84,7 +84,7 @@ fn run_generated<O: Sink>(
 ) -> Answer
     requires no_fault { HasNoFault (generated_files (generate_in command.now)) generated_wanted }
     requires is_linked { IsLinked (input_of (generated_files (generate_in command.now)) generated_wanted) container.now }
-    ensures { GenerateComesTo (generate_in command.now) result
+    ensures { GenerateResultsIn (generate_in command.now) result
         (record { text = O.bytes out.old; puts = O.faults out.old })
         (record { text = O.bytes out.new; puts = O.faults out.new }) }
 {
@@ -150,7 +150,7 @@ fn push_value(label: &str, value: u64, line: &mut Line)
 
 /// Puts a line.
 fn put_line<O: Sink>(line: &[u8], out: &mut O) -> Answer
-    ensures { TellsText None line.now result
+    ensures { WritesText None line.now result
         (record { text = O.bytes out.old; puts = O.faults out.old })
         (record { text = O.bytes out.new; puts = O.faults out.new }) }
 {

@@ -31,7 +31,7 @@ pub(crate) fn first_item(words: &[Bytes]) -> Option<(Item<'_>, &[Bytes])>
         return Some((Item::File(word), rest));
     }
     match rest.split_first() {
-        Some((value, behind)) => Some((Item::Setting(word, value.as_slice()), behind)),
+        Some((value, after)) => Some((Item::Setting(word, value.as_slice()), after)),
         None => Some((Item::Unvalued(word), rest)),
     }
 }

@@ -32,11 +32,11 @@ impl<'a> LinkInput<'a> {
     {
         let mut objects = Vec::new(alloc);
         let mut rest = self.words;
-        while let Some((item, behind)) = first_item(rest) {
+        while let Some((item, after)) = first_item(rest) {
             if let Some(object) = item.file() {
                 objects.push(object)?;
             }
-            rest = behind;
+            rest = after;
         }
         Ok(objects)
     }
@@ -57,11 +57,11 @@ impl<'a> LinkInput<'a> {
         ensures { OnOk result (wanted.new ≡ record wanted.old { entries = (input_in self.now).wanted.entries }) }
     {
         let mut rest = self.words;
-        while let Some((item, behind)) = first_item(rest) {
+        while let Some((item, after)) = first_item(rest) {
             if let Some(name) = item.entry() {
                 wanted.entry(name)?;
             }
-            rest = behind;
+            rest = after;
         }
         if wanted.entries() == 0 {
             wanted.entry(DEFAULT_ENTRY)?;
@@ -74,11 +74,11 @@ impl<'a> LinkInput<'a> {
         ensures { OnOk result (wanted.new ≡ record wanted.old { imports = (input_in self.now).wanted.imports }) }
     {
         let mut rest = self.words;
-        while let Some((item, behind)) = first_item(rest) {
+        while let Some((item, after)) = first_item(rest) {
             if let Some(import) = item.import() {
                 wanted.import(import.name, import.kind)?;
             }
-            rest = behind;
+            rest = after;
         }
         Ok(())
     }

@@ -6,7 +6,7 @@ ghost use Rattle.polkatool_cmd.specs.Commands.{Link};
 ghost use Rattle.polkatool_cmd.specs.LinkRead.{input_in, link_in};
 ghost use Rattle.polkatool_cmd.specs.Faults.{file_too_large, limit_of};
 ghost use Rattle.polkatool_cmd.specs.Snapshot.{Holds};
-ghost use Rattle.polkatool_cmd.specs.Answers.{ComesTo};
+ghost use Rattle.polkatool_cmd.specs.Answers.{ResultsIn};
 ghost use Rattle.polkatool_cmd.specs.LinkAnswers.{HasObjects, LinksFiles};
 ghost use Rattle.link_core.specs.Faults.{input_of, HasNoFault, HasFirstFault, Refuses};
 ghost use Rattle.link_core.specs.Linked.{HoldsLinked};
@@ -34,7 +34,7 @@ pub(crate) fn link<F: Folder, O: Sink>(
     files: &mut F,
     out: &mut O,
 ) -> Answer
-    ensures comes { ComesTo (Some (Link (link_in command.now))) result
+    ensures results { ResultsIn (Some (Link (link_in command.now))) result
         (record {
           files = F.files files.old;
           reads = F.read_faults files.old;

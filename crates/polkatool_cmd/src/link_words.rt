@@ -72,11 +72,11 @@ fn are_of_link(words: &[Bytes]) -> bool
     ensures { result ≡ list_all is_of_link (items words.now) }
 {
     let mut rest = words;
-    while let Some((item, behind)) = first_item(rest) {
+    while let Some((item, after)) = first_item(rest) {
         if !item.is_of_link() {
             return false;
         }
-        rest = behind;
+        rest = after;
     }
     true
 }
@@ -88,9 +88,9 @@ fn count_outputs(words: &[Bytes]) -> usize
 {
     let mut count = 0;
     let mut rest = words;
-    while let Some((item, behind)) = first_item(rest) {
+    while let Some((item, after)) = first_item(rest) {
         count = count_with(count, item.output().is_some());
-        rest = behind;
+        rest = after;
     }
     count
 }
@@ -120,12 +120,12 @@ fn object_counts(words: &[Bytes]) -> Counts
         objects: 0,
     };
     let mut rest = words;
-    while let Some((item, behind)) = first_item(rest) {
+    while let Some((item, after)) = first_item(rest) {
         counts.entries = count_with(counts.entries, item.entry().is_some());
         counts.imports = count_with(counts.imports, item.import().is_some());
         counts.stacks = count_with(counts.stacks, item.stack().is_some());
         counts.objects = count_with(counts.objects, item.file().is_some());
-        rest = behind;
+        rest = after;
     }
     counts
 }
@@ -146,11 +146,11 @@ fn first_output(words: &[Bytes]) -> Option<&str>
     ensures { option_copied result ≡ slice_get (outputs (items words.now)) 0 }
 {
     let mut rest = words;
-    while let Some((item, behind)) = first_item(rest) {
+    while let Some((item, after)) = first_item(rest) {
         if let Some(output) = item.output() {
             return Some(output);
         }
-        rest = behind;
+        rest = after;
     }
     None
 }
@@ -161,11 +161,11 @@ fn first_stack(words: &[Bytes]) -> Option<u32>
     ensures small { IfSome result (λ stack. stack < 2 ^ 24) }
 {
     let mut rest = words;
-    while let Some((item, behind)) = first_item(rest) {
+    while let Some((item, after)) = first_item(rest) {
         if let Some(stack) = item.stack() {
             return Some(stack);
         }
-        rest = behind;
+        rest = after;
     }
     None
 }
@@ -175,13 +175,13 @@ fn repeats_import(words: &[Bytes]) -> bool
     ensures { result ≡ repeats_import (imports (items words.now)) }
 {
     let mut rest = words;
-    while let Some((item, behind)) = first_item(rest) {
+    while let Some((item, after)) = first_item(rest) {
         if let Some(import) = item.import()
-            && is_imported(import.name, behind)
+            && is_imported(import.name, after)
         {
             return true;
         }
-        rest = behind;
+        rest = after;
     }
     false
 }
@@ -191,13 +191,13 @@ fn is_imported(name: &[u8], words: &[Bytes]) -> bool
     ensures { result ≡ is_imported name.now (imports (items words.now)) }
 {
     let mut rest = words;
-    while let Some((item, behind)) = first_item(rest) {
+    while let Some((item, after)) = first_item(rest) {
         if let Some(import) = item.import()
             && import.name == name
         {
             return true;
         }
-        rest = behind;
+        rest = after;
     }
     false
 }
@@ -266,7 +266,7 @@ fn import_in_value(value: &[u8]) -> Option<Import<'_>>
 /// The part of a value before its last '=', and the part after it. Without one, all is after it.
 fn split_at_last_equals_sign(value: &[u8]) -> (&[u8], &[u8])
     ensures before { result.0.now ≡ before_last is_equals_sign value.now }
-    ensures behind { result.1.now ≡ after_last is_equals_sign value.now }
+    ensures after { result.1.now ≡ after_last is_equals_sign value.now }
 {
     let mut end = value.len();
     while end > 0 {

@@ -9,8 +9,8 @@ ghost use Rattle.polkatool_cmd.specs.Commands.{Run};
 ghost use Rattle.polkatool_cmd.specs.RunRead.{run_in, settings_in};
 ghost use Rattle.polkatool_cmd.specs.RunFaults.{bad_reply_line as bad_reply_line_of};
 ghost use Rattle.polkatool_cmd.specs.Statuses.{status_of};
-ghost use Rattle.polkatool_cmd.specs.Answers.{ComesTo};
-ghost use Rattle.polkatool_cmd.specs.Running.{HasReplies, FailsToReadReplies, Starts, FailsToStart, Tells, EndsAs};
+ghost use Rattle.polkatool_cmd.specs.Answers.{ResultsIn};
+ghost use Rattle.polkatool_cmd.specs.Running.{HasReplies, FailsToReadReplies, Starts, FailsToStart, WritesRun, EndsAs};
 
 use crate::answer::Answer;
 use crate::blob::{blob_fault, blob_fault_at, read_blob};
@@ -23,7 +23,7 @@ use elf_objects::Fault;
 use outside::{Bytes, Folder, Sink};
 use pvm_machine::{Machine, StartFault};
 use std::alloc::Global;
-use transcript::{Replies, ReplyFault, RunEnd, TellFault, tell};
+use transcript::{Replies, ReplyFault, RunEnd, WriteRunFault, write_run};
 
 /// The most bytes of a file of replies, 2^20.
 const REPLIES_LIMIT: u32 = 1 << 20;
@@ -35,7 +35,7 @@ pub(crate) fn run<F: Folder, O: Sink>(
     files: &mut F,
     out: &mut O,
 ) -> Answer
-    ensures comes { ComesTo (Some (Run (run_in command.now))) result
+    ensures results { ResultsIn (Some (Run (run_in command.now))) result
         (record {
           files = F.files files.old;
           reads = F.read_faults files.old;
@@ -133,14 +133,14 @@ pub(crate) fn finish<O: Sink>(
     replies: &Replies,
     out: &mut O,
 ) -> Answer
-    ensures { Tells (run_with answering (start_host replies.now) machine.old) machine.new result
+    ensures { WritesRun (run_with answering (start_host replies.now) machine.old) machine.new result
         (record { text = O.bytes out.old; puts = O.faults out.old })
         (record { text = O.bytes out.new; puts = O.faults out.new }) }
 {
-    match tell(alloc, machine, replies, out) {
+    match write_run(alloc, machine, replies, out) {
         Ok(end) => answer_of(end),
-        Err(TellFault::Failed) => Answer::FileFault,
-        Err(TellFault::Memory) => Answer::Memory,
+        Err(WriteRunFault::Failed) => Answer::FileFault,
+        Err(WriteRunFault::Memory) => Answer::Memory,
     }
 }
 

@@ -76,11 +76,11 @@ fn are_of_run(words: &[Bytes]) -> bool
     ensures { result ≡ list_all is_of_run (items words.now) }
 {
     let mut rest = words;
-    while let Some((item, behind)) = first_item(rest) {
+    while let Some((item, after)) = first_item(rest) {
         if !item.is_of_run() {
             return false;
         }
-        rest = behind;
+        rest = after;
     }
     true
 }
@@ -92,9 +92,9 @@ fn count_blobs(words: &[Bytes]) -> usize
 {
     let mut count = 0;
     let mut rest = words;
-    while let Some((item, behind)) = first_item(rest) {
+    while let Some((item, after)) = first_item(rest) {
         count = count_with(count, item.file().is_some());
-        rest = behind;
+        rest = after;
     }
     count
 }
@@ -122,12 +122,12 @@ fn setting_counts(words: &[Bytes]) -> RunCounts
         reply_files: 0,
     };
     let mut rest = words;
-    while let Some((item, behind)) = first_item(rest) {
+    while let Some((item, after)) = first_item(rest) {
         counts.entries = count_with(counts.entries, item.run_entry().is_some());
         counts.gas_amounts = count_with(counts.gas_amounts, item.gas().is_some());
         counts.arguments = count_with(counts.arguments, item.argument().is_some());
         counts.reply_files = count_with(counts.reply_files, item.replies().is_some());
-        rest = behind;
+        rest = after;
     }
     counts
 }
@@ -151,7 +151,7 @@ fn first_values(words: &[Bytes]) -> RunValues<'_>
         blob: None,
     };
     let mut rest = words;
-    while let Some((item, behind)) = first_item(rest) {
+    while let Some((item, after)) = first_item(rest) {
         values = RunValues {
             entry: values.entry.or(item.run_entry()),
             gas: values.gas.or(item.gas()),
@@ -159,7 +159,7 @@ fn first_values(words: &[Bytes]) -> RunValues<'_>
             replies: values.replies.or(item.replies()),
             blob: values.blob.or(item.file()),
         };
-        rest = behind;
+        rest = after;
     }
     values
 }

@@ -2,7 +2,7 @@
 
 ghost use Rattle.std.specs.Option.{SomeIff};
 ghost use Rattle.std.specs.Prelude.{◌≡◌, ◌+◌, ◌*◌, ◌^◌, ◌<◌, MatchOption, IfSome, true, false};
-ghost use Rattle.polkatool_cmd.specs.Values.{below, number_below, digits_behind, begins_with_dash, is_name, is_file};
+ghost use Rattle.polkatool_cmd.specs.Values.{below, number_below, digits_after, begins_with_dash, is_name, is_file};
 
 /// The number below 2^32 that decimal digits without a leading zero spell.
 pub(crate) fn small_number(word: &[u8]) -> Option<u32>
@@ -33,14 +33,14 @@ pub(crate) fn number(word: &[u8]) -> Option<u64>
 
 /// The number below 2^64 that decimal digits spell.
 fn digits(word: &[u8]) -> Option<u64>
-    ensures { result ≡ below (2 ^ 64) (digits_behind 0 word.now) }
+    ensures { result ≡ below (2 ^ 64) (digits_after 0 word.now) }
 {
     let mut number = 0u64;
     for byte in word {
         if !byte.is_ascii_digit() {
             return None;
         }
-        let Some(next) = digit_behind(number, *byte - b'0') else {
+        let Some(next) = digit_after(number, *byte - b'0') else {
             return None;
         };
         number = next;
@@ -49,7 +49,7 @@ fn digits(word: &[u8]) -> Option<u64>
 }
 
 /// The number with one digit more, where it is below 2^64.
-fn digit_behind(number: u64, digit: u8) -> Option<u64>
+fn digit_after(number: u64, digit: u8) -> Option<u64>
     ensures { SomeIff result (10 * number + digit < 2 ^ 64) (10 * number + digit) }
 {
     number.checked_mul(10)?.checked_add(u64::from(digit))

@@ -4,7 +4,7 @@
 ghost use Rattle.rv_decode.specs.Operations.{IsReg};
 ghost use Rattle.lift_blocks.specs.Fits.{IsOperand};
 
-use lower::{Three, lower_operation, operations_are_carried_out};
+use lower::{Three, lower_operation, operations_are_implemented};
 use pvm_ops::Instr;
 use rv_decode::{Alu, AluImm, LoadWidth, Reg, RvOp, StoreWidth};
 use std::process::Abort;
@@ -395,5 +395,5 @@ fn constants_and_the_trap(rt: HostRuntime) {
 /// Nothing of this law is seen where a program runs: the test shows that it can be called.
 #[test]
 fn a_law_of_operations_is_there() {
-    operations_are_carried_out();
+    operations_are_implemented();
 }

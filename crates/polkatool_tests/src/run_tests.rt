@@ -2,9 +2,9 @@ use crate::fixtures::returning_five;
 use blob_codec::Container;
 use pvm_machine::{Exit, Machine};
 use runs::{
-    block_is_carried, blocks_begin_at_marks, code_agrees, end_stays, gas_is_counted, groups_begin,
-    jumps_keep_their_entry, laid_runs_the_same, run_is_step_by_step, simulation_agrees,
-    world_is_cut, world_is_laid,
+    block_is_implemented, blocks_begin_at_marks, code_agrees, end_stays, gas_is_counted,
+    groups_begin, jumps_keep_their_entry, lockstep_runs_the_same, run_is_step_by_step,
+    simulation_agrees, world_is_cut, world_is_in_lockstep,
 };
 use std::test::*;
 
@@ -31,12 +31,12 @@ fn each_instruction_costs_one(rt: HostRuntime) -> Result<(), Fail> {
 fn laws_of_all_machines_are_there() {
     end_stays();
     simulation_agrees();
-    laid_runs_the_same();
-    block_is_carried();
+    lockstep_runs_the_same();
+    block_is_implemented();
     code_agrees();
     jumps_keep_their_entry();
     blocks_begin_at_marks();
     groups_begin();
-    world_is_laid();
+    world_is_in_lockstep();
     world_is_cut();
 }

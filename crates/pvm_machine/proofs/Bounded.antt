@@ -9,7 +9,7 @@ use Rattle.numbers.specs.Bytes.{little, number_of}
 use Rattle.numbers.specs.Words.{sum_64}
 use Rattle.runs.specs.Machine.{Outcome, Next, Jump, Call, Ends}
 use Rattle.runs.specs.Numbers.{halt_address, named, to_named, jump_by}
-use Rattle.runs.specs.Laid.{Fetched}
+use Rattle.runs.specs.Lockstep.{Fetched}
 use Rattle.machine_state.specs.Memory.{Memory, page_size}
 use Rattle.machine_state.specs.State.{State, register, with_register, with_memory}
 use Rattle.machine_state.specs.Heap.{may_end_at, with_top, sbrk}
@@ -33,8 +33,8 @@ use Rattle.pvm_machine.specs.declared.operation.Operation.TheVariants as op
 use Rattle.pvm_machine.specs.Operations.{operation_of}
 use Rattle.pvm_machine.specs.Effect.{bytes_of, has_sign, does, effect}
 use Rattle.pvm_machine.specs.Machine.{Machine}
-use Rattle.pvm_machine.specs.Step.{Standing, land, stands, does_at, instr_at}
-use Rattle.pvm_machine.specs.Stepped.{Stepped, came_out, begun, stayed, stepped, go_on, repeated}
+use Rattle.pvm_machine.specs.Step.{FetchedInstr, land, has_instr, does_at, instr_at}
+use Rattle.pvm_machine.specs.Stepped.{Stepped, after_outcome, begun, stayed, stepped, go_on, repeated}
 use Rattle.pvm_machine.specs.Within.{NamesWord, IsWithin, StepsStayWithin}
 use Rattle.pvm_machine.specs.declared.answers.Step.{Step}
 use Rattle.pvm_machine.specs.declared.answers.Step.TheVariants as answer
@@ -215,22 +215,22 @@ fetched_if_next : (b : Bool) (code : Listing) (at : ℕ) → at < length code.by
 fetched_if_next true code at less few = omega (arith, less, few, few_pass (is_stop code) 24 (at + 1))
 fetched_if_next false code at less few = omega (arith, less, few)
 
-record IsFetched (f : Fetched Standing ℕ) : Type 0 where
+record IsFetched (f : Fetched FetchedInstr ℕ) : Type 0 where
   pub x : f.instr.instr.x < 2 ^ 64
   pub next : f.next < 2 ^ 64
 
-abbrev AreFetched : Option (Fetched Standing ℕ) → Type 0
+abbrev AreFetched : Option (Fetched FetchedInstr ℕ) → Type 0
 AreFetched None = Unit {0}
 AreFetched (Some f) = IsFetched f
 
 fetched : (code : Listing) (at : ℕ) → length code.bytes ≤ 2 ^ 32 → AreFetched (instr_at code at)
 unfolding instr_at fetch_of
-fetched code at few = by_test (stands code at) refl
+fetched code at few = by_test (has_instr code at) refl
   where
     found : instr.Fetched
     found = fetched_if (is_marked code at && is_known (slice_index code.bytes at)) code at
 
-    by_test : (b : Bool) → stands code at ≡ b → AreFetched (if b then Some (record { instr = record { instr = found.instr; at = at }; next = found.next }) else None)
+    by_test : (b : Bool) → has_instr code at ≡ b → AreFetched (if b then Some (record { instr = record { instr = found.instr; at = at }; next = found.next }) else None)
     by_test false e = tt
     by_test true e = record {
       x = fetched_if_x (is_marked code at && is_known (slice_index code.bytes at)) code at;
@@ -249,22 +249,22 @@ IsHere m = (m.state.heap_bound ≡ 0) × (m.counter < 2 ^ 64)
 stays_here : (m : Machine) (how : Step) → IsHere m → NamesWord how → IsStepped m (stayed m how)
 stays_here m how here names = record { within = record { pages = refl; counter = here.1; names = names }; heap = here.0; code = refl }
 
-came_out_within : (m : Machine) (next x : ℕ) (o : Outcome ℕ State End) → IsHere m → length m.code.bytes ≤ 2 ^ 32 → x < 2 ^ 64 → next < 2 ^ 64
-    → Leaves (map.len m.state.memory) x o → Lands m.code o → IsStepped m (came_out m next o)
-came_out_within m next x (Next s) here few word there h lands = record { within = record { pages = h.0; counter = there; names = tt }; heap = h.1; code = refl }
-came_out_within m next x (Jump target s) here few word there h lands = record { within = record { pages = h.0; counter = omega (arith, lands, few); names = tt }; heap = h.1; code = refl }
-came_out_within m next x (Call number s) here few word there h lands = record { within = record { pages = h.0.0; counter = there; names = omega (arith, h.1, word) }; heap = h.0.1; code = refl }
-came_out_within m next x (Ends (Halt registers memory)) here few word there h lands = record { within = record { pages = h; counter = here.1; names = tt }; heap = here.0; code = refl }
-came_out_within m next x (Ends (Panic memory)) here few word there h lands = stays_here m answer.Panic here tt
-came_out_within m next x (Ends (Fault address memory)) here few word there h lands = stays_here m (answer.Fault address) here (omega (arith, h))
-came_out_within m next x (Ends (Unanswered number memory)) here few word there h lands = stays_here m answer.Panic here tt
-came_out_within m next x (Ends (BadReply line address memory)) here few word there h lands = stays_here m answer.Panic here tt
+after_outcome_within : (m : Machine) (next x : ℕ) (o : Outcome ℕ State End) → IsHere m → length m.code.bytes ≤ 2 ^ 32 → x < 2 ^ 64 → next < 2 ^ 64
+    → Leaves (map.len m.state.memory) x o → Lands m.code o → IsStepped m (after_outcome m next o)
+after_outcome_within m next x (Next s) here few word there h lands = record { within = record { pages = h.0; counter = there; names = tt }; heap = h.1; code = refl }
+after_outcome_within m next x (Jump target s) here few word there h lands = record { within = record { pages = h.0; counter = omega (arith, lands, few); names = tt }; heap = h.1; code = refl }
+after_outcome_within m next x (Call number s) here few word there h lands = record { within = record { pages = h.0.0; counter = there; names = omega (arith, h.1, word) }; heap = h.0.1; code = refl }
+after_outcome_within m next x (Ends (Halt registers memory)) here few word there h lands = record { within = record { pages = h; counter = here.1; names = tt }; heap = here.0; code = refl }
+after_outcome_within m next x (Ends (Panic memory)) here few word there h lands = stays_here m answer.Panic here tt
+after_outcome_within m next x (Ends (Fault address memory)) here few word there h lands = stays_here m (answer.Fault address) here (omega (arith, h))
+after_outcome_within m next x (Ends (Unanswered number memory)) here few word there h lands = stays_here m answer.Panic here tt
+after_outcome_within m next x (Ends (BadReply line address memory)) here few word there h lands = stays_here m answer.Panic here tt
 
-begun_within : (m : Machine) (o : Option (Fetched Standing ℕ)) → IsHere m → length m.code.bytes ≤ 2 ^ 32 → AreFetched o → IsStepped m (begun m o)
+begun_within : (m : Machine) (o : Option (Fetched FetchedInstr ℕ)) → IsHere m → length m.code.bytes ≤ 2 ^ 32 → AreFetched o → IsStepped m (begun m o)
 begun_within m None here few are = stays_here m answer.Panic here tt
 begun_within m (Some f) here few are =
     let leaves = land_leaves (map.len m.state.memory) f.instr.instr.x m.code _ (effect_leaves (map.len m.state.memory) (sum_64 f.instr.at (offset_of (form_of f.instr.instr.op) f.instr.instr)) m.table f.instr.instr m.state (refl, here.0)) in
-    came_out_within m f.next f.instr.instr.x (does_at m.table m.code f.instr m.state) here few are.x are.next leaves.0 leaves.1
+    after_outcome_within m f.next f.instr.instr.x (does_at m.table m.code f.instr m.state) here few are.x are.next leaves.0 leaves.1
 
 stepped_within : (m : Machine) → IsHere m → length m.code.bytes ≤ 2 ^ 32 → IsStepped m (stepped m)
 stepped_within m here few = by_gas m.gas refl

@@ -8,7 +8,7 @@ use Rattle.std.proofs.lemmas.Bool.Decides.{nat_tests}
 use Rattle.numbers.specs.Bytes.{little}
 use Rattle.numbers.specs.Words.{sum_64}
 use Rattle.runs.specs.Machine.{Outcome, Next, Jump, Call, Ends}
-use Rattle.runs.specs.Laid.{Fetched}
+use Rattle.runs.specs.Lockstep.{Fetched}
 use Rattle.runs.specs.Numbers.{halt_address, named, to_named, jump_by}
 use Rattle.machine_state.specs.Memory.{Memory}
 use Rattle.machine_state.specs.State.{State, register, with_register, with_memory}
@@ -29,8 +29,8 @@ use Rattle.pvm_machine.specs.declared.operation.Operation.TheVariants as op
 use Rattle.pvm_machine.specs.Operations.{operation_of}
 use Rattle.pvm_machine.specs.Effect.{bytes_of, has_sign, does, effect}
 use Rattle.pvm_machine.specs.Machine.{Machine, HeapFits}
-use Rattle.pvm_machine.specs.Step.{Standing, land, does_at, instr_at}
-use Rattle.pvm_machine.specs.Stepped.{Stepped, came_out, begun, stepped, IsStep, MapsPages, AreSteps, Keeps}
+use Rattle.pvm_machine.specs.Step.{FetchedInstr, land, does_at, instr_at}
+use Rattle.pvm_machine.specs.Stepped.{Stepped, after_outcome, begun, stepped, IsStep, MapsPages, AreSteps, Keeps}
 use Rattle.pvm_machine.specs.Ran.{last_answer}
 use Rattle.pvm_machine.specs.declared.answers.Step.{Step}
 use Rattle.pvm_machine.specs.declared.answers.Step.TheVariants as answer
@@ -165,7 +165,7 @@ module _ (keep : StoresKeepPages) where
   land_keeps starts s (Call number t) h = h
   land_keeps starts s (Ends end) h = h
 
-  at_keeps : (table : List ℕ) (code : Listing) (i : Standing) (s : State) → IsKept s (does_at table code i s)
+  at_keeps : (table : List ℕ) (code : Listing) (i : FetchedInstr) (s : State) → IsKept s (does_at table code i s)
   at_keeps table code i s = land_keeps (is_start code) s _ (effect_keeps table (sum_64 i.at (offset_of (form_of i.instr.op) i.instr)) i.instr s)
 
   same : (m : Machine) → Keeps m m
@@ -174,21 +174,21 @@ module _ (keep : StoresKeepPages) where
   gone_keeps : (m : Machine) (position : ℕ) (s : State) → KeepsState m.state s → Keeps m (record m { counter = position; state = s })
   gone_keeps m position s h = record { table = refl; code = refl; registers = h.registers; heap_bound = h.heap_bound; frame_limit = h.frame_limit; heap_top = h.heap_top; gas = omega arith; within = h.within; frames = h.frames; heap_end = h.heap_end }
 
-  came_out_keeps : (m : Machine) (next : ℕ) (x : Outcome ℕ State End) → IsKept m.state x → Keeps m (came_out m next x).machine
-  came_out_keeps m next (Next s) h = gone_keeps m next s h
-  came_out_keeps m next (Jump target s) h = gone_keeps m target s h
-  came_out_keeps m next (Call number s) h = gone_keeps m next s h
-  came_out_keeps m next (Ends (Halt registers memory)) h =
+  after_outcome_keeps : (m : Machine) (next : ℕ) (x : Outcome ℕ State End) → IsKept m.state x → Keeps m (after_outcome m next x).machine
+  after_outcome_keeps m next (Next s) h = gone_keeps m next s h
+  after_outcome_keeps m next (Jump target s) h = gone_keeps m target s h
+  after_outcome_keeps m next (Call number s) h = gone_keeps m next s h
+  after_outcome_keeps m next (Ends (Halt registers memory)) h =
       let pages : map.len memory ≡ map.len m.state.memory = ap map.len h.0 in
       record { table = refl; code = refl; registers = h.1; heap_bound = refl; frame_limit = refl; heap_top = omega arith; gas = omega arith; within = λ few. omega (arith, few, pages); frames = λ _. pages; heap_end = λ _. refl }
-  came_out_keeps m next (Ends (Panic memory)) h = same m
-  came_out_keeps m next (Ends (Fault address memory)) h = same m
-  came_out_keeps m next (Ends (Unanswered number memory)) h = same m
-  came_out_keeps m next (Ends (BadReply line address memory)) h = same m
+  after_outcome_keeps m next (Ends (Panic memory)) h = same m
+  after_outcome_keeps m next (Ends (Fault address memory)) h = same m
+  after_outcome_keeps m next (Ends (Unanswered number memory)) h = same m
+  after_outcome_keeps m next (Ends (BadReply line address memory)) h = same m
 
-  begun_keeps : (m : Machine) (o : Option (Fetched Standing ℕ)) → Keeps m (begun m o).machine
+  begun_keeps : (m : Machine) (o : Option (Fetched FetchedInstr ℕ)) → Keeps m (begun m o).machine
   begun_keeps m None = same m
-  begun_keeps m (Some f) = came_out_keeps m f.next _ (at_keeps m.table m.code f.instr m.state)
+  begun_keeps m (Some f) = after_outcome_keeps m f.next _ (at_keeps m.table m.code f.instr m.state)
 
   paid_keeps : (m n : Machine) (k : ℕ) → k ≤ m.gas → Keeps (record m { gas = k }) n → Keeps m n
   paid_keeps m n k less h = record { table = h.table; code = h.code; registers = h.registers; heap_bound = h.heap_bound; frame_limit = h.frame_limit; heap_top = h.heap_top; gas = omega (arith, less, h.gas); within = h.within; frames = h.frames; heap_end = h.heap_end }

@@ -7,7 +7,7 @@ use Rattle.std.specs.FinMap as map
 use Rattle.std.proofs.lemmas.Cmp.{nat_cmp_total}
 use Rattle.std.proofs.lemmas.Bool.Decides.{nat_tests}
 use Rattle.machine_state.specs.Memory.{Mode, Readable, Writable, Page, Memory, no_memory, page_size, first_page, with_pages}
-use Rattle.machine_state.specs.Start.{Image, pages_of, read_only_start, start_behind, stack_end, argument_start, start_memory}
+use Rattle.machine_state.specs.Start.{Image, pages_of, read_only_start, start_after, stack_end, argument_start, start_memory}
 use Rattle.page_memory.specs.declared.mode.Mode.TheVariants as mode
 use Rattle.page_memory.specs.Access.{copy_in, stored}
 use Rattle.page_memory.specs.Mapping.{HasPages, ChangesPages, with_mode}
@@ -70,7 +70,7 @@ module _ (image : Image) (argument : List ℕ) where
       (empty first second third last : Memory) (argument_pages stack_pages writable_pages read_only_pages writable_page zero_pages stack : ℕ) (read_only writable : List ℕ)
       → read_only ≡ image.read_only → writable ≡ image.writable → zero_pages ≡ image.zero_pages → stack ≡ image.stack
       → argument_pages ≡ pages_of (length argument) → stack_pages ≡ pages_of stack → writable_pages ≡ pages_of (length writable) → read_only_pages ≡ pages_of (length read_only)
-      → writable_page ≡ start_behind (length read_only) / page_size
+      → writable_page ≡ start_after (length read_only) / page_size
       → empty ≡ no_memory
       → first ≡ with_pages argument_pages (argument_start / page_size) Readable argument empty
       → second ≡ with_pages stack_pages (stack_end / page_size - stack_pages) Writable [] first

@@ -1,7 +1,7 @@
 -- Steps and repeated steps: the last of them, and those that go on before it.
 use Rattle.std.proofs.Common.{◌≡◌, ℕ, zero, suc, ◌+◌, refl, ap, sym, ◌∙◌, subst, arith}
 use Rattle.pvm_machine.specs.Machine.{Machine}
-use Rattle.pvm_machine.specs.Stepped.{Stepped, stayed, stepped, go_on, repeated, all_steps, IsStep, MapsPages, LeadsTo, CameTo, AreSteps, Keeps}
+use Rattle.pvm_machine.specs.Stepped.{Stepped, stayed, stepped, go_on, repeated, all_steps, IsStep, MapsPages, LeadsTo, Reached, AreSteps, Keeps}
 use Rattle.pvm_machine.specs.Ran.{last_answer}
 use Rattle.pvm_machine.specs.declared.answers.Step.TheVariants as answer
 use Rattle.pvm_machine.specs.declared.answers.Exit.{Exit}
@@ -34,15 +34,15 @@ steps_end m next e is = by_gas m.gas
     by_gas (suc gas) = rw (← is) (sym (stays (repeated gas) next e))
 
 -- a step that does not go on is the last of the steps that led to it
-pub last_step : (first m next : Machine) (e : Exit) → all_steps m ≡ all_steps first → CameTo first m → IsStep m next (last_answer e) → AreSteps first next (last_answer e)
-last_step first m next exit.Halt same came is = steps_end m next exit.Halt is ∙ same
-last_step first m next exit.Panic same came is = steps_end m next exit.Panic is ∙ same
-last_step first m next (exit.Fault address) same came is = steps_end m next (exit.Fault address) is ∙ same
-last_step first m next exit.OutOfGas same came is = steps_end m next exit.OutOfGas is ∙ same
-last_step first m next (exit.Host number) same came is = steps_end m next (exit.Host number) is ∙ same
-last_step first m next exit.Memory same came is =
-    let Stops : Machine → Type 0 = λ n. CameTo first n × MapsPages n in
-    subst Stops (sym is.0) (came, is.1)
+pub last_step : (first m next : Machine) (e : Exit) → all_steps m ≡ all_steps first → Reached first m → IsStep m next (last_answer e) → AreSteps first next (last_answer e)
+last_step first m next exit.Halt same reached is = steps_end m next exit.Halt is ∙ same
+last_step first m next exit.Panic same reached is = steps_end m next exit.Panic is ∙ same
+last_step first m next (exit.Fault address) same reached is = steps_end m next (exit.Fault address) is ∙ same
+last_step first m next exit.OutOfGas same reached is = steps_end m next exit.OutOfGas is ∙ same
+last_step first m next (exit.Host number) same reached is = steps_end m next (exit.Host number) is ∙ same
+last_step first m next exit.Memory same reached is =
+    let Stops : Machine → Type 0 = λ n. Reached first n × MapsPages n in
+    subst Stops (sym is.0) (reached, is.1)
 
 leads_on : (n : ℕ) (first m next : Machine) → LeadsTo n first m → record { machine = next; answer = answer.Next } ≡ stepped m → LeadsTo (suc n) first next
 leads_on zero first m next leads is =
@@ -51,8 +51,8 @@ leads_on zero first m next leads is =
 leads_on (suc n) first m next leads is = (leads.0, leads_on n (stepped first).machine m next leads.1 is)
 
 -- a step more
-pub came_on : (first m next : Machine) → CameTo first m → record { machine = next; answer = answer.Next } ≡ stepped m → CameTo first next
-came_on first m next came is = record { steps = suc came.steps; leads = leads_on came.steps first m next came.leads is }
+pub reached_next : (first m next : Machine) → Reached first m → record { machine = next; answer = answer.Next } ≡ stepped m → Reached first next
+reached_next first m next reached is = record { steps = suc reached.steps; leads = leads_on reached.steps first m next reached.leads is }
 
 -- what is kept twice is kept
 pub keeps_on : (first second third : Machine) → Keeps first second → Keeps second third → Keeps first third

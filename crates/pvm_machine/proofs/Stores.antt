@@ -19,8 +19,8 @@ same_address address = omega arith
 
 -- a store lands as it is
 pub stores_do :
-    (starts : ℕ → Bool) (len address word : ℕ) (s after : State) (came : Outcome) → stores len (address % 2 ^ 64) word s ≡ outcome_of came after
-    → land starts (stores len address word s) ≡ outcome_of came after
-stores_do starts len address word s after came does =
+    (starts : ℕ → Bool) (len address word : ℕ) (s after : State) (reached : Outcome) → stores len (address % 2 ^ 64) word s ≡ outcome_of reached after
+    → land starts (stores len address word s) ≡ outcome_of reached after
+stores_do starts len address word s after reached does =
     let same : address % 2 ^ 32 ≡ address % 2 ^ 64 % 2 ^ 32 = sym (same_address address) in
     store_lands starts len address word s ∙ ap (λ (at : ℕ). stored_by (with_memory s (model.store s.memory at len word)) s (model.store_answer s.memory at len)) same ∙ does

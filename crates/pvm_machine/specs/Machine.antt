@@ -16,8 +16,8 @@ pub record Machine : Type 0 where
   pub gas : ℕ
 
 -- the machine's position and world, for its runs: its state, and what its host holds
-abbrev pub standing : {Held : Type 0} → Machine → Held → At ℕ (World State Held)
-standing m held = record { at = m.counter; of = record { state = m.state; held = held } }
+abbrev pub run_state : {Held : Type 0} → Machine → Held → At ℕ (World State Held)
+run_state m held = record { at = m.counter; of = record { state = m.state; held = held } }
 
 -- what runs, beside its program: the position of the next instruction, the state, and the gas that is left
 pub record Core : Type 0 where

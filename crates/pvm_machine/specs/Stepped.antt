@@ -2,12 +2,12 @@
 use Rattle.std.specs.Prelude.{◌≡◌, ℕ, zero, suc, ◌+◌, ◌-◌, ◌<◌, ◌≤◌, ◌==◌, if◌then◌else◌, length, Option, Some, None}
 use Rattle.std.specs.FinMap as map
 use Rattle.runs.specs.Machine.{Outcome, Next, Jump, Call, Ends}
-use Rattle.runs.specs.Laid.{Fetched}
+use Rattle.runs.specs.Lockstep.{Fetched}
 use Rattle.machine_state.specs.State.{State}
 use Rattle.machine_state.specs.Ends.{End, Halt, Panic, Fault, Unanswered, BadReply}
 use Rattle.machine_state.specs.Start.{pages_of}
 use Rattle.pvm_machine.specs.Machine.{Machine}
-use Rattle.pvm_machine.specs.Step.{Standing, does_at, instr_at}
+use Rattle.pvm_machine.specs.Step.{FetchedInstr, does_at, instr_at}
 use Rattle.pvm_machine.specs.declared.answers.Step.{Step}
 use Rattle.pvm_machine.specs.declared.answers.Step.TheVariants as answer
 
@@ -34,16 +34,16 @@ ended m (Unanswered number memory) = stayed m answer.Panic
 ended m (BadReply line address memory) = stayed m answer.Panic
 
 -- an instruction came out so, and `next` is the position after it: there the machine is for a host call too
-abbrev pub came_out : Machine → ℕ → Outcome ℕ State End → Stepped
-came_out m next (Next s) = gone m next s answer.Next
-came_out m next (Jump target s) = gone m target s answer.Next
-came_out m next (Call number s) = gone m next s (answer.Host number)
-came_out m next (Ends end) = ended m end
+abbrev pub after_outcome : Machine → ℕ → Outcome ℕ State End → Stepped
+after_outcome m next (Next s) = gone m next s answer.Next
+after_outcome m next (Jump target s) = gone m target s answer.Next
+after_outcome m next (Call number s) = gone m next s (answer.Host number)
+after_outcome m next (Ends end) = ended m end
 
 -- the instruction at the counter is executed, and where none is, the machine panics as at a trap
-abbrev pub begun : Machine → Option (Fetched Standing ℕ) → Stepped
+abbrev pub begun : Machine → Option (Fetched FetchedInstr ℕ) → Stepped
 begun m None = stayed m answer.Panic
-begun m (Some f) = came_out m f.next (does_at m.table m.code f.instr m.state)
+begun m (Some f) = after_outcome m f.next (does_at m.table m.code f.instr m.state)
 
 -- An instruction is begun only with gas above 0, and costs one, whatever its result; with none left nothing changes.
 -- How the host would answer does not matter: the step ends where the host is called.
@@ -80,13 +80,13 @@ LeadsTo zero old new = new ≡ old
 LeadsTo (suc n) old new = ((stepped old).answer ≡ answer.Next) × LeadsTo n (stepped old).machine new
 
 -- steps that go on lead from a machine to another
-pub record CameTo (old new : Machine) : Type 0 where
+pub record Reached (old new : Machine) : Type 0 where
   pub steps : ℕ
   pub leads : LeadsTo steps old new
 
 -- Repeated steps leave and answer what is defined. Where an allocation fails, they led to a step that would map pages.
 abbrev pub AreSteps : Machine → Machine → Step → Type 0
-AreSteps old new answer.Memory = CameTo old new × MapsPages new
+AreSteps old new answer.Memory = Reached old new × MapsPages new
 AreSteps old new how = record { machine = new; answer = how } ≡ all_steps old
 
 -- what a step with an answer costs: 1, where an instruction was begun

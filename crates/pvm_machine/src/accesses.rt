@@ -2,7 +2,7 @@ ghost use Rattle.std.specs.Prelude.{◌≡◌, ◌≤◌, ◌*◌, ◌%◌, ◌^
 ghost use Rattle.machine_state.specs.State.{State, with_memory};
 ghost use Rattle.numbers.specs.Words.{sign_extend};
 ghost use Rattle.page_memory.specs.Access as access;
-ghost use Rattle.page_memory.specs.Answers.{told};
+ghost use Rattle.page_memory.specs.Answers.{reported};
 ghost use Rattle.page_memory.specs.Outcomes.{widened, stores};
 ghost use Rattle.pvm_machine.specs.Effect.{bytes_of, has_sign};
 ghost use Rattle.pvm_machine.specs.Outcomes.{outcome_of, refused_as, outcome_by, registers_by, word_by, SameAfter};
@@ -20,7 +20,7 @@ pub(crate) fn load(
     width: Width,
     extension: Extension,
 ) -> Result<u64, Access>
-    ensures { result ≡ told (word_by (widened (has_sign extension) (bytes_of width)) (access.load memory.now (address % 2 ^ 32) (bytes_of width))) }
+    ensures { result ≡ reported (word_by (widened (has_sign extension) (bytes_of width)) (access.load memory.now (address % 2 ^ 32) (bytes_of width))) }
 {
     match read(memory, low_32(address), width) {
         Ok(number) => Ok(widen(number, width, extension)),
@@ -73,7 +73,7 @@ fn low_32(word: u64) -> u32
 /// The number of the bytes at an address.
 #[inline]
 fn read(memory: &Memory, at: u32, width: Width) -> Result<u64, Access>
-    ensures { result ≡ told (access.load memory.now at (bytes_of width)) }
+    ensures { result ≡ reported (access.load memory.now at (bytes_of width)) }
 {
     match width {
         Width::One => memory.read8(at),
@@ -86,7 +86,7 @@ fn read(memory: &Memory, at: u32, width: Width) -> Result<u64, Access>
 /// Stores the low bytes of a value at an address.
 #[inline]
 fn write(memory: &mut Memory, at: u32, width: Width, value: u64) -> Result<(), Access>
-    ensures answer { result ≡ told (access.store_answer memory.old at (bytes_of width)) }
+    ensures answer { result ≡ reported (access.store_answer memory.old at (bytes_of width)) }
     ensures memory { memory.new ≡ access.store memory.old at (bytes_of width) value }
 {
     match width {

@@ -101,24 +101,24 @@ pushed start instrs i (x ∷ y ∷ rest) (suc k) b d e n was is =
     (ap (λ l. record { instrs = slice_range instrs start x.end; target = x.target } ∷ l) (pushed x.end instrs i (y ∷ rest) k b d f.rest (omega (arith, n)) was is))
 
 -- the last one gets a target, and ends where it did
-pub aimed_cut : (start end : ℕ) (bs : List BasicBlock) (k : ℕ) (b d : BasicBlock) → are_cut start end bs ≡ true → suc k ≡ length bs → b.end ≡ (get_or bs k d).end → are_cut start end (set bs k b) ≡ true
-aimed_cut start end [] k b d e n is = absurd (omega (arith, n))
-aimed_cut start end (x ∷ []) zero b d e n is =
+pub targeted_cut : (start end : ℕ) (bs : List BasicBlock) (k : ℕ) (b d : BasicBlock) → are_cut start end bs ≡ true → suc k ≡ length bs → b.end ≡ (get_or bs k d).end → are_cut start end (set bs k b) ≡ true
+targeted_cut start end [] k b d e n is = absurd (omega (arith, n))
+targeted_cut start end (x ∷ []) zero b d e n is =
     let f = front start end x [] e in
     joined start end b [] (omega (arith, f.after, is)) (rw is f.rest)
-aimed_cut start end (x ∷ []) (suc k) b d e n is = absurd (omega (arith, n))
-aimed_cut start end (x ∷ y ∷ rest) zero b d e n is = absurd (omega (arith, n))
-aimed_cut start end (x ∷ y ∷ rest) (suc k) b d e n is =
+targeted_cut start end (x ∷ []) (suc k) b d e n is = absurd (omega (arith, n))
+targeted_cut start end (x ∷ y ∷ rest) zero b d e n is = absurd (omega (arith, n))
+targeted_cut start end (x ∷ y ∷ rest) (suc k) b d e n is =
     let f = front start end x (y ∷ rest) e in
-    joined start end x (set (y ∷ rest) k b) f.after (aimed_cut x.end end (y ∷ rest) k b d f.rest (omega (arith, n)) is)
+    joined start end x (set (y ∷ rest) k b) f.after (targeted_cut x.end end (y ∷ rest) k b d f.rest (omega (arith, n)) is)
 
-pub aimed : (start t : ℕ) (instrs : List Instr) (bs : List BasicBlock) (k : ℕ) (b d : BasicBlock) → suc k ≡ length bs → b.end ≡ (get_or bs k d).end → b.target ≡ Some t → blocks_from start instrs (set bs k b) ≡ change_last (with_target t) (blocks_from start instrs bs)
-aimed start t instrs [] k b d n is to = absurd (omega (arith, n))
-aimed start t instrs (x ∷ []) zero b d n is to = rw (is, to) refl
-aimed start t instrs (x ∷ []) (suc k) b d n is to = absurd (omega (arith, n))
-aimed start t instrs (x ∷ y ∷ rest) zero b d n is to = absurd (omega (arith, n))
-aimed start t instrs (x ∷ y ∷ rest) (suc k) b d n is to =
-    ap (λ l. record { instrs = slice_range instrs start x.end; target = x.target } ∷ l) (aimed x.end t instrs (y ∷ rest) k b d (omega (arith, n)) is to)
+pub targeted : (start t : ℕ) (instrs : List Instr) (bs : List BasicBlock) (k : ℕ) (b d : BasicBlock) → suc k ≡ length bs → b.end ≡ (get_or bs k d).end → b.target ≡ Some t → blocks_from start instrs (set bs k b) ≡ change_last (with_target t) (blocks_from start instrs bs)
+targeted start t instrs [] k b d n is to = absurd (omega (arith, n))
+targeted start t instrs (x ∷ []) zero b d n is to = rw (is, to) refl
+targeted start t instrs (x ∷ []) (suc k) b d n is to = absurd (omega (arith, n))
+targeted start t instrs (x ∷ y ∷ rest) zero b d n is to = absurd (omega (arith, n))
+targeted start t instrs (x ∷ y ∷ rest) (suc k) b d n is to =
+    ap (λ l. record { instrs = slice_range instrs start x.end; target = x.target } ∷ l) (targeted x.end t instrs (y ∷ rest) k b d (omega (arith, n)) is to)
 
 -- ---- a block by its number
 

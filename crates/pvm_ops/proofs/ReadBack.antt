@@ -159,12 +159,12 @@ operands-back RRR bytes at l i a b d o u f h =
 
 pub reads-back : ReadsBack
 unfolding fetch_of spelling
-reads-back code i at l known ok stands =
+reads-back code i at l known ok alone_at =
     let f : Form = form_of i.op in
     let n : ℕ = length (fields f i l) in
     let few : n ≤ 24 = length-fields f l i ok.offset in
-    let op : slice_index code.bytes at ≡ i.op = stands.bytes.0 in
+    let op : slice_index code.bytes at ≡ i.op = alone_at.bytes.0 in
     let skipped : run_before (is_stop code) (at + 1) 24 ≡ n =
-    run_before-is (is_stop code) 24 (at + 1) n few (λ p a b. stands.alone p a (omega arith)) (λ p e _. let e' : p ≡ at + suc n = omega arith in rw e' stands.stop) in
+    run_before-is (is_stop code) 24 (at + 1) n few (λ p a b. alone_at.alone p a (omega arith)) (λ p e _. let e' : p ≡ at + suc n = omega arith in rw e' alone_at.stop) in
     let last : at + 1 + n ≡ at + suc n = omega arith in
-    rw (stands.marked, op, known, skipped, operands-back f code.bytes at l i ok.a ok.b ok.d ok.offset ok.unused ok.fit stands.bytes.1, last) refl
+    rw (alone_at.marked, op, known, skipped, operands-back f code.bytes at l i ok.a ok.b ok.d ok.offset ok.unused ok.fit alone_at.bytes.1, last) refl

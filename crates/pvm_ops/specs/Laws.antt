@@ -4,13 +4,13 @@ use Rattle.std.specs.List.{slice_index_or}
 use Rattle.pvm_ops.specs.Listing.{Listing, is_marked, is_stop, packed}
 use Rattle.pvm_ops.specs.Opcodes.{is_known}
 use Rattle.pvm_ops.specs.Fetch.{fetch_of}
-use Rattle.pvm_ops.specs.Spelling.{spelling, IsEncodable, StandsAt}
+use Rattle.pvm_ops.specs.Spelling.{spelling, IsEncodable, IsAloneAt}
 use Rattle.pvm_ops.specs.declared.instr.Instr.{Instr}
 
 -- an instruction that stands alone is fetched as it was spelled
 abbrev pub ReadsBack : Type 0
 ReadsBack =
-    (code : Listing) (i : Instr) (at offset_len : ℕ) → IsTrue (is_known i.op) → IsEncodable i offset_len → StandsAt code i at offset_len →
+    (code : Listing) (i : Instr) (at offset_len : ℕ) → IsTrue (is_known i.op) → IsEncodable i offset_len → IsAloneAt code i at offset_len →
     fetch_of code at ≡ record { instr = i; next = at + length (spelling i offset_len) }
 
 -- a packed mask marks the positions of its marks

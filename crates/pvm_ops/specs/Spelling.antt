@@ -96,7 +96,7 @@ Reads bytes at [] = Unit {0}
 Reads bytes at (x ∷ xs) = (slice_index bytes at ≡ x) × Reads bytes (at + 1) xs
 
 -- the instruction stands alone at a position: it is marked, nothing in it is, and a mark or the end of the code follows
-pub record StandsAt (code : Listing) (i : Instr) (at offset_len : ℕ) : Type 0 where
+pub record IsAloneAt (code : Listing) (i : Instr) (at offset_len : ℕ) : Type 0 where
   pub bytes : Reads code.bytes at (spelling i offset_len)
   pub marked : is_marked code at ≡ true
   pub alone : (p : ℕ) → at + 1 ≤ p → p < at + length (spelling i offset_len) → is_stop code p ≡ false

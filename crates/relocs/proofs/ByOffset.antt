@@ -10,7 +10,7 @@ use Rattle.elf_objects.specs.declared.parts.Relocation.{Relocation}
 use Rattle.elf_objects.specs.Objects.{Object}
 use Rattle.symbols.specs.Faults.{has_effect}
 use Rattle.relocs.specs.declared.found.Found.{Found}
-use Rattle.relocs.specs.Pairs.{stands_at}
+use Rattle.relocs.specs.Pairs.{relocation_is_at}
 use Rattle.relocs.specs.Sites.{gives_high, found_of}
 use Rattle.relocs.specs.ByOffset.{changes_something, is_at, offset_of, IsBound, IsRow, AreNamed}
 
@@ -112,11 +112,11 @@ filter_same s t same (r ∷ rs) = rw (same r) (by_test (filter_same s t same rs)
     by_test e true = ap (λ l. r ∷ l) e
     by_test e false = e
 
-filter_twice : (f : ℕ) (rs : List Relocation) → filter (is_at f) (filter changes_something rs) ≡ filter (stands_at f) rs
+filter_twice : (f : ℕ) (rs : List Relocation) → filter (is_at f) (filter changes_something rs) ≡ filter (relocation_is_at f) rs
 filter_twice f [] = refl
 filter_twice f (r ∷ rs) = by_test (has_effect r.kind) refl (is_at f r) refl (filter_twice f rs)
   where
-    by_test : (a : Bool) → has_effect r.kind ≡ a → (b : Bool) → is_at f r ≡ b → filter (is_at f) (filter changes_something rs) ≡ filter (stands_at f) rs → filter (is_at f) (filter changes_something (r ∷ rs)) ≡ filter (stands_at f) (r ∷ rs)
+    by_test : (a : Bool) → has_effect r.kind ≡ a → (b : Bool) → is_at f r ≡ b → filter (is_at f) (filter changes_something rs) ≡ filter (relocation_is_at f) rs → filter (is_at f) (filter changes_something (r ∷ rs)) ≡ filter (relocation_is_at f) (r ∷ rs)
     by_test true e true g rest = rw (e, g) (ap (λ l. r ∷ l) rest)
     by_test true e false g rest = rw (e, g) rest
     by_test false e b g rest = rw e rest

@@ -5,7 +5,7 @@ use Rattle.elf_objects.specs.declared.parts.Relocation.{Relocation}
 use Rattle.elf_objects.specs.declared.parts.SectionKind.{SectionKind}
 use Rattle.elf_objects.specs.declared.parts.SectionKind.TheVariants as kinds
 use Rattle.elf_objects.specs.Objects.{Section, relocations_of, is_loaded_kind}
-use Rattle.elf_objects.specs.Sound.{KeepsRelocation}
+use Rattle.elf_objects.specs.Keeping.{KeepsRelocation}
 use Rattle.symbols.specs.Laws.{HasSection}
 use Rattle.symbols.specs.Parts.{object_at, kind_of}
 use Rattle.symbols.specs.Resolution.{resolution}

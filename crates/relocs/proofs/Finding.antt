@@ -8,7 +8,7 @@ use Rattle.elf_objects.specs.declared.parts.Relocation.{Relocation}
 use Rattle.relocs.specs.declared.found.Found.{Found}
 use Rattle.relocs.specs.Kinds.{kind_of, is_call}
 use Rattle.symbols.specs.Wanted.{Given}
-use Rattle.relocs.specs.Pairs.{stands_at, has_call}
+use Rattle.relocs.specs.Pairs.{relocation_is_at, has_call}
 use Rattle.relocs.specs.Sites.{IsNamed, gives_high, found_of, found_more}
 
 pub filter_next : {A : Type 0} (test : A → Bool) (xs : List A) (i : ℕ) (x : A) → slice_get xs i ≡ Some x → filter test (take (suc i) xs) ≡ filter test (take i xs) ++ cond (test x) (x ∷ []) []
@@ -51,15 +51,15 @@ append_none (x ∷ xs) = ap (λ l. x ∷ l) (append_none xs)
 
 -- with the next relocation of the table
 pub found_next :
-    (offset i : ℕ) (table : List Relocation) (r : Relocation) (now new : Found) → slice_get table i ≡ Some r → now ≡ found_of (filter (stands_at offset) (take i table))
-    → new ≡ (if stands_at offset r then found_more now r else now) → new ≡ found_of (filter (stands_at offset) (take (i + 1) table))
+    (offset i : ℕ) (table : List Relocation) (r : Relocation) (now new : Found) → slice_get table i ≡ Some r → now ≡ found_of (filter (relocation_is_at offset) (take i table))
+    → new ≡ (if relocation_is_at offset r then found_more now r else now) → new ≡ found_of (filter (relocation_is_at offset) (take (i + 1) table))
 found_next offset i table r now new here was is =
     let next : i + 1 ≡ suc i = omega arith in
-    is ∙ by_test (stands_at offset r) ∙ ap found_of (sym (filter_next (stands_at offset) table i r here)) ∙ ap (λ n. found_of (filter (stands_at offset) (take n table))) (sym next)
+    is ∙ by_test (relocation_is_at offset r) ∙ ap found_of (sym (filter_next (relocation_is_at offset) table i r here)) ∙ ap (λ n. found_of (filter (relocation_is_at offset) (take n table))) (sym next)
   where
-    by_test : (b : Bool) → (if b then found_more now r else now) ≡ found_of (filter (stands_at offset) (take i table) ++ cond b (r ∷ []) [])
-    by_test true = ap (λ f. found_more f r) was ∙ sym (found_one (filter (stands_at offset) (take i table)) r)
-    by_test false = was ∙ ap found_of (sym (append_none (filter (stands_at offset) (take i table))))
+    by_test : (b : Bool) → (if b then found_more now r else now) ≡ found_of (filter (relocation_is_at offset) (take i table) ++ cond b (r ∷ []) [])
+    by_test true = ap (λ f. found_more f r) was ∙ sym (found_one (filter (relocation_is_at offset) (take i table)) r)
+    by_test false = was ∙ ap found_of (sym (append_none (filter (relocation_is_at offset) (take i table))))
 
 length-filter : {A : Type 0} (test : A → Bool) (xs : List A) → length (filter test xs) ≤ length xs
 length-filter test [] = omega arith
@@ -75,16 +75,16 @@ length-take-le (suc n) [] = omega arith
 length-take-le (suc n) (x ∷ xs) = let rest = length-take-le n xs in omega (arith, rest)
 
 -- no more are found than were looked at
-pub found_few : (offset i : ℕ) (table : List Relocation) (found : Found) → found ≡ found_of (filter (stands_at offset) (take i table)) → found.count ≤ i
+pub found_few : (offset i : ℕ) (table : List Relocation) (found : Found) → found ≡ found_of (filter (relocation_is_at offset) (take i table)) → found.count ≤ i
 found_few offset i table found is =
-    let count : found.count ≡ length (filter (stands_at offset) (take i table)) = ap (λ f. f.count) is in
-    omega (arith, count, length-filter (stands_at offset) (take i table), length-take-le i table)
+    let count : found.count ≡ length (filter (relocation_is_at offset) (take i table)) = ap (λ f. f.count) is in
+    omega (arith, count, length-filter (relocation_is_at offset) (take i table), length-take-le i table)
 
 -- the symbol of what gives a value is still in the object
 pub named_next :
     (given : Given) (o offset : ℕ) (r : Relocation) (now new : Found) → IfSome now.high (IsNamed given o) → IsNamed given o r
-    → new ≡ (if stands_at offset r then found_more now r else now) → IfSome new.high (IsNamed given o)
-named_next given o offset r now new was here is = subst (λ f. IfSome f.high (IsNamed given o)) (sym is) (by_test (stands_at offset r))
+    → new ≡ (if relocation_is_at offset r then found_more now r else now) → IfSome new.high (IsNamed given o)
+named_next given o offset r now new was here is = subst (λ f. IfSome f.high (IsNamed given o)) (sym is) (by_test (relocation_is_at offset r))
   where
     first_or : (a : Option Relocation) (b : Bool) → IfSome a (IsNamed given o) → IfSome (a or_else where_true b r) (IsNamed given o)
     first_or (Some x) b h = h

@@ -66,7 +66,7 @@ pub placed_end :
     → start + length (placed_after start bytes align piece) ≡ aligned (start + length bytes) align + length piece
 placed_end aligned_is_least start align bytes piece =
     let at : ℕ = start + length bytes in
-    let after : at ≤ aligned at align = (aligned_is_least at align).behind in
+    let after : at ≤ aligned at align = (aligned_is_least at align).after in
     let zeros : List ℕ = replicate (aligned at align - at) 0 in
     omega (arith, after, length-append (bytes ++ zeros) piece, length-append bytes zeros, length-replicate {A = ℕ} (aligned at align - at) 0)
 
@@ -179,7 +179,7 @@ module _ (aligned_is_least : AlignedIsLeast) (given : Given) (part : Part) where
       let the_section : section_at (object_at given.objects o).sections s ≡ x = ap (λ y. unwrap_or y no_section) here in
       let aligned_there : address ≡ aligned at x.align =
       address_is ∙ base_there given part o s x here holds_it ∙ ap (λ (n : ℕ). aligned n x.align) (sym before) in
-      let after : at ≤ aligned at x.align = (aligned_is_least at x.align).behind in
+      let after : at ≤ aligned at x.align = (aligned_is_least at x.align).after in
       let zeros : address - start - length old ≡ aligned at x.align - at = omega (arith, aligned_there, start_is, after) in
       let whole : take (address - start) old ≡ old = take_more_than (address - start) old (omega (arith, aligned_there, start_is, after)) in
       let relocations : relocations_of (object_at given.objects o) s ≡ x.relocations = ap relocations_in here in

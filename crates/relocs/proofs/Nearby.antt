@@ -9,7 +9,7 @@ use Rattle.symbols.specs.Laws.{HasSection}
 use Rattle.symbols.specs.Parts.{object_at, kind_at}
 use Rattle.symbols.specs.Wanted.{Given}
 use Rattle.layout.specs.Slots.{loaded_relocations}
-use Rattle.relocs.specs.Pairs.{stands_at, relocations_at}
+use Rattle.relocs.specs.Pairs.{relocation_is_at, relocations_at}
 use Rattle.relocs.specs.ByOffset.{AreNamed}
 use Rattle.relocs.specs.Sources.{IsRelocation, AreRelocations}
 use Rattle.relocs.proofs.ByOffset.{filter_again, filter_from}
@@ -20,15 +20,15 @@ loaded_code given o s code = rw code refl
 
 pub of_row :
     (given : Given) (o s offset : ℕ) (objects : List Object) (row : List Relocation) → objects ≡ given.objects → kind_at given.objects o s ≡ kinds.Code
-    → row ≡ filter (stands_at offset) (relocations_of (object_at objects o) s) → row ≡ relocations_at given o s offset
+    → row ≡ filter (relocation_is_at offset) (relocations_of (object_at objects o) s) → row ≡ relocations_at given o s offset
 of_row given o s offset objects row same code is =
-    is ∙ ap (λ l. filter (stands_at offset) (relocations_of (object_at l o) s)) same ∙ ap (filter (stands_at offset)) (sym (loaded_code given o s code))
+    is ∙ ap (λ l. filter (relocation_is_at offset) (relocations_of (object_at l o) s)) same ∙ ap (filter (relocation_is_at offset)) (sym (loaded_code given o s code))
 
 pub near_row :
     (given : Given) (o s offset : ℕ) (objects : List Object) (row : List Relocation) → objects ≡ given.objects → kind_at given.objects o s ≡ kinds.Code
-    → row ≡ filter (stands_at offset) (relocations_of (object_at objects o) s) → filter (stands_at offset) row ≡ relocations_at given o s offset
+    → row ≡ filter (relocation_is_at offset) (relocations_of (object_at objects o) s) → filter (relocation_is_at offset) row ≡ relocations_at given o s offset
 near_row given o s offset objects row same code is =
-    ap (filter (stands_at offset)) is ∙ filter_again (stands_at offset) (relocations_of (object_at objects o) s) ∙ sym is ∙ of_row given o s offset objects row same code is
+    ap (filter (relocation_is_at offset)) is ∙ filter_again (relocation_is_at offset) (relocations_of (object_at objects o) s) ∙ sym is ∙ of_row given o s offset objects row same code is
 
 -- those at an offset are relocations of the section
 pub are_relocations :
@@ -36,7 +36,7 @@ pub are_relocations :
     → AreRelocations given o s row
 are_relocations given o s offset row has named is = record {
   each = λ i r e.
-      let found = filter_from (stands_at offset) (loaded_relocations given o s) i r (ap (λ l. slice_get l i) (sym is) ∙ e) in (
+      let found = filter_from (relocation_is_at offset) (loaded_relocations given o s) i r (ap (λ l. slice_get l i) (sym is) ∙ e) in (
         record { at = found.0; object_in = has.object_in; section_in = has.section_in; entry = found.1 },
         named.each i r e,
       );

@@ -16,7 +16,7 @@ use Rattle.relocs.specs.Kinds.{kind_of}
 use Rattle.relocs.specs.Places.{Code}
 use Rattle.relocs.specs.Words.{raw_at}
 use Rattle.relocs.specs.Values.{is_high_low, address_fault}
-use Rattle.relocs.specs.Pairs.{stands_at, relocations_at, is_second}
+use Rattle.relocs.specs.Pairs.{relocation_is_at, relocations_at, is_second}
 use Rattle.relocs.specs.Operands.{symbol_place, relocation_value, is_allowed, meaning_fault, plain_fault, label_fault, relocation_fault, crowd_fault, codes_by, lesser, least, listed}
 use Rattle.relocs.specs.CodeFaults.{operation_codes, refusal_code}
 use Rattle.relocs.specs.Sites.{FitsOperand}
@@ -100,8 +100,8 @@ pub fits_unrefused :
     (given : Given) (o s at : ℕ) (r : Relocation) → kind_at given.objects o s ≡ kinds.Code → slice_get (relocations_of (object_at given.objects o) s) at ≡ Some r
     → refusal_code given o s r.offset ≡ None → has_effect r.kind ≡ true → FitsOperand (kind_of r.kind) given o r
 fits_unrefused given o s at r code here none effect =
-    let stands : stands_at r.offset r ≡ true = rw (effect, eqb_self r.offset) refl in
-    let least_none : least (filter_map (relocation_fault given o s) (filter (stands_at r.offset) (relocations_of (object_at given.objects o) s))) ≡ None =
-    subst (λ k. least (filter_map (relocation_fault given o s) (filter (stands_at r.offset) (if is_loaded_kind k then relocations_of (object_at given.objects o) s else []))) ≡ None) code (uses_none given o s r.offset none) in
-    let fault_none = none_of (relocation_fault given o s) (stands_at r.offset) (relocations_of (object_at given.objects o) s) at r here stands least_none in
+    let at_own : relocation_is_at r.offset r ≡ true = rw (effect, eqb_self r.offset) refl in
+    let least_none : least (filter_map (relocation_fault given o s) (filter (relocation_is_at r.offset) (relocations_of (object_at given.objects o) s))) ≡ None =
+    subst (λ k. least (filter_map (relocation_fault given o s) (filter (relocation_is_at r.offset) (if is_loaded_kind k then relocations_of (object_at given.objects o) s else []))) ≡ None) code (uses_none given o s r.offset none) in
+    let fault_none = none_of (relocation_fault given o s) (relocation_is_at r.offset) (relocations_of (object_at given.objects o) s) at r here at_own least_none in
     fits_by given o r (kind_of r.kind) (meaning_none (is_allowed given o s r) (meaning_fault (kind_of r.kind) given o r) (plain_none given o s r fault_none))

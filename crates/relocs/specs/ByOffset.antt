@@ -12,7 +12,7 @@ use Rattle.symbols.specs.Laws.{HasSection}
 use Rattle.symbols.specs.Parts.{object_at, kind_at}
 use Rattle.symbols.specs.Wanted.{Given}
 use Rattle.relocs.specs.Kinds.{kind_of, is_call}
-use Rattle.relocs.specs.Pairs.{stands_at}
+use Rattle.relocs.specs.Pairs.{relocation_is_at}
 use Rattle.relocs.specs.Places.{code_if}
 use Rattle.relocs.specs.Sites.{gives_high}
 use Rattle.relocs.specs.Words.{word_or_trap}
@@ -49,7 +49,7 @@ pub record HasStarts (row : List Relocation) (starts : List ℕ) : Type 0 where
 -- a table by offset: at each offset those that change something, in table order
 pub record IsRow (table row : List Relocation) : Type 0 where
   pub rises : IsNonDecreasingBy offset_of row
-  pub each : (offset : ℕ) → filter (is_at offset) row ≡ filter (stands_at offset) table
+  pub each : (offset : ℕ) → filter (is_at offset) row ≡ filter (relocation_is_at offset) table
 
 -- the symbols of relocations are those of an object
 pub record AreNamed (of : Object) (relocations : List Relocation) : Type 0 where

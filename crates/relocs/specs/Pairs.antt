@@ -20,12 +20,12 @@ use Rattle.relocs.specs.Places.{CodePlace, Code, Stub, Nowhere, code_offsets, ha
 use Rattle.relocs.specs.Words.{raw_at}
 
 -- a relocation is at an offset, and changes something
-abbrev pub stands_at : ℕ → Relocation → Bool
-stands_at offset r = has_effect r.kind && nat_eq r.offset offset
+abbrev pub relocation_is_at : ℕ → Relocation → Bool
+relocation_is_at offset r = has_effect r.kind && nat_eq r.offset offset
 
 -- those of a section that do, in table order
 abbrev pub relocations_at : Given → ℕ → ℕ → ℕ → List Relocation
-relocations_at given o s offset = filter (stands_at offset) (loaded_relocations given o s)
+relocations_at given o s offset = filter (relocation_is_at offset) (loaded_relocations given o s)
 
 abbrev pub same_register : Reg → Reg → Bool
 same_register Zero Zero = true

@@ -2,7 +2,7 @@
 
 ghost use Rattle.std.specs.Prelude.{◌≡◌, ◌<◌, ◌^◌, ◌+◌, ◌-ℤ◌, pos, true, length, slice_get, Some, is_none, is_some, unsigned_abs};
 ghost use Rattle.elf_objects.specs.Objects.{relocations_of};
-ghost use Rattle.elf_objects.specs.Sound.{KeepsRelocation};
+ghost use Rattle.elf_objects.specs.Keeping.{KeepsRelocation};
 ghost use Rattle.symbols.specs.Laws.{HasSection, is_data as the_data};
 ghost use Rattle.symbols.specs.Parts.{object_at, kind_at};
 ghost use Rattle.faults.specs.First.{first_below};

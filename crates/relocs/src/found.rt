@@ -2,7 +2,7 @@ ghost use Rattle.std.specs.Prelude.{◌≡◌, ◌<◌, ◌^◌, ◌-◌, length
 ghost use Rattle.faults.specs.First.{◌or_else◌, where_true};
 ghost use Rattle.relocs.specs.Kinds.{is_call as is_the_call, kind_of as the_kind};
 ghost use Rattle.relocs.specs.ByOffset.{calls as the_calls};
-ghost use Rattle.relocs.specs.Pairs.{stands_at};
+ghost use Rattle.relocs.specs.Pairs.{relocation_is_at};
 ghost use Rattle.std.specs.List.{filter};
 ghost use Rattle.relocs.specs.Sites.{found_of, found_more, gives_high as gives_the_high};
 
@@ -59,7 +59,7 @@ impl Found {
     /// The same with one relocation more, where it is at the offset.
     pub(crate) fn with(self, relocation: Relocation, offset: u64) -> Found
         requires { self.count < 2 ^ 64 - 1 }
-        ensures { result ≡ (if stands_at offset relocation then found_more self relocation else self) }
+        ensures { result ≡ (if relocation_is_at offset relocation then found_more self relocation else self) }
     {
         if has_effect(relocation.kind) && relocation.offset == offset {
             self.with_one(relocation)

@@ -2,7 +2,7 @@
 
 ghost use Rattle.std.specs.Prelude.{◌≡◌, ◌<◌, length, slice_get, Some};
 ghost use Rattle.elf_objects.specs.Objects.{Object as TheObject, relocations_of};
-ghost use Rattle.elf_objects.specs.Sound.{KeepsRelocation};
+ghost use Rattle.elf_objects.specs.Keeping.{KeepsRelocation};
 ghost use Rattle.relocs.specs.Near.{items_of, IsThere, BelongTo};
 
 use elf_objects::{Object, Relocation};

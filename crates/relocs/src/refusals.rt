@@ -5,7 +5,7 @@ ghost use Rattle.std.specs.List.{filter_map};
 ghost use Rattle.symbols.specs.Parts.{object_at};
 ghost use Rattle.symbols.specs.Wanted.{Given};
 ghost use Rattle.relocs.specs.Operands.{plain_fault as the_plain_fault, auipc_fault as the_auipc_fault, label_of as the_label_of, offset_in as the_offset_in, high_of as the_high_of, label_fault as the_label_fault, relocation_fault as the_relocation_fault, lesser as the_lesser, least, codes_by};
-ghost use Rattle.relocs.specs.Pairs.{relocations_at, stands_at};
+ghost use Rattle.relocs.specs.Pairs.{relocations_at, relocation_is_at};
 ghost use Rattle.relocs.specs.Sites.{IsCodeSection, IsNamed};
 ghost use Rattle.relocs.specs.Sources.{IsSourcesOf};
 
@@ -48,7 +48,7 @@ impl Sources<'_, '_, '_> {
         requires sources { IsSourcesOf given self.now }
         requires section { IsCodeSection given object section }
         requires named { relocation.symbol < length (object_at given.objects object).symbols }
-        ensures { result ≡ (if stands_at offset relocation then the_plain_fault given object section relocation else None) }
+        ensures { result ≡ (if relocation_is_at offset relocation then the_plain_fault given object section relocation else None) }
     {
         if has_effect(relocation.kind) && relocation.offset == offset {
             self.plain_fault(object, section, relocation)
@@ -203,7 +203,7 @@ impl Sources<'_, '_, '_> {
         requires sources { IsSourcesOf given self.now }
         requires section { IsCodeSection given object section }
         requires named { relocation.symbol < length (object_at given.objects object).symbols }
-        ensures { result ≡ (if stands_at offset relocation then the_relocation_fault given object section relocation else None) }
+        ensures { result ≡ (if relocation_is_at offset relocation then the_relocation_fault given object section relocation else None) }
     {
         if has_effect(relocation.kind) && relocation.offset == offset {
             self.relocation_fault(object, section, relocation)

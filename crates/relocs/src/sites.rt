@@ -6,7 +6,7 @@ ghost use Rattle.symbols.specs.Parts.{object_at};
 ghost use Rattle.symbols.specs.Wanted.{Given};
 ghost use Rattle.relocs.specs.Near.{items_of, IsThere, BelongTo};
 ghost use Rattle.relocs.specs.Operands.{holds_auipc as holds_the_auipc};
-ghost use Rattle.relocs.specs.Pairs.{relocations_at, stands_at, can_call as may_call, is_pair_at as is_the_pair, is_second as is_the_second, is_place as is_the_place, joins as the_joins, same_register};
+ghost use Rattle.relocs.specs.Pairs.{relocations_at, relocation_is_at, can_call as may_call, is_pair_at as is_the_pair, is_second as is_the_second, is_place as is_the_place, joins as the_joins, same_register};
 ghost use Rattle.relocs.specs.Places.{Code, code_at};
 ghost use Rattle.relocs.specs.Sites.{IsCodeSection, HasSize, IsNamed, found_of};
 ghost use Rattle.relocs.specs.CodeFaults.{word_fault as the_word_fault, code_of_word as the_code_of_word};
@@ -199,7 +199,7 @@ impl<'l, 't, 'a> Sources<'l, 't, 'a> {
         requires sources { IsSourcesOf given self.now }
         requires section { IsCodeSection given object section }
         ensures there { IsThere result }
-        ensures at { filter (stands_at offset) (items_of result) ≡ relocations_at given object section offset }
+        ensures at { filter (relocation_is_at offset) (items_of result) ≡ relocations_at given object section offset }
         ensures named { BelongTo (object_at given.objects object) result }
     {
         match self.tables {

@@ -7,7 +7,7 @@ ghost use Rattle.elf_objects.specs.declared.parts.Relocation.{Relocation as TheR
 ghost use Rattle.elf_objects.specs.Objects.{relocations_of};
 ghost use Rattle.symbols.specs.Laws.{HasSection};
 ghost use Rattle.symbols.specs.Parts.{object_at};
-ghost use Rattle.relocs.specs.Pairs.{stands_at, has_call as has_the_call};
+ghost use Rattle.relocs.specs.Pairs.{relocation_is_at, has_call as has_the_call};
 ghost use Rattle.relocs.specs.ByOffset.{is_at, AreNamed, IsRow, IsRowOf, IsCodeOf, IsCodeIn, HasParts, HasRows, HasTables, code_of, kept_word};
 ghost use Rattle.relocs.specs.Sites.{HasSize, found_of};
 ghost use Rattle.relocs.specs.Words.{word_in, decoded};
@@ -230,7 +230,7 @@ impl Tables {
     pub fn at(&self, objects: &Objects<'_>, object: u32, section: u32, offset: u64) -> &[Relocation]
         requires tables { HasTables objects.now self.now }
         requires section { HasSection objects.now object section }
-        ensures at { result.now ≡ filter (stands_at offset) (relocations_of (object_at objects.now object) section) }
+        ensures at { result.now ≡ filter (relocation_is_at offset) (relocations_of (object_at objects.now object) section) }
         ensures named { AreNamed (object_at objects.now object) result.now }
     {
         self.rows(object).row(section).at(offset)
@@ -246,7 +246,7 @@ impl Tables {
     ) -> Found
         requires tables { HasTables objects.now self.now }
         requires section { HasSection objects.now object section }
-        ensures found { result ≡ found_of (filter (stands_at offset) (relocations_of (object_at objects.now object) section)) }
+        ensures found { result ≡ found_of (filter (relocation_is_at offset) (relocations_of (object_at objects.now object) section)) }
         ensures named { IfSome result.high (λ r. r.symbol < length (object_at objects.now object).symbols) }
     {
         self.rows(object).row(section).found(offset)
@@ -256,7 +256,7 @@ impl Tables {
     pub fn has_call(&self, objects: &Objects<'_>, object: u32, section: u32, offset: u64) -> bool
         requires tables { HasTables objects.now self.now }
         requires section { HasSection objects.now object section }
-        ensures { result ≡ has_the_call (filter (stands_at offset) (relocations_of (object_at objects.now object) section)) }
+        ensures { result ≡ has_the_call (filter (relocation_is_at offset) (relocations_of (object_at objects.now object) section)) }
     {
         self.found(objects, object, section, offset).call
     }

@@ -5,8 +5,8 @@ use Rattle.std.proofs.lemmas.List.{map-append, length-map, append-nil}
 use Rattle.std.specs.List.{AllByRecursion}
 use Rattle.runs.specs.Joined.{joined, position}
 use Rattle.runs.specs.Machine.{Outcome, Next, Jump, Call, Ends, and_then, does, one_more, begun}
-use Rattle.runs.specs.Pieces.{Piece, all_ops, all_instrs, op_place, instr_place, Whole, GoodOutcome, Carries}
-use Rattle.runs.specs.Groups.{parts, pieces_of}
+use Rattle.runs.specs.Segments.{Segment, all_ops, all_instrs, op_place, instr_place, Whole, GoodOutcome, Implements}
+use Rattle.runs.specs.Groups.{parts, segments_of}
 use Rattle.runs.proofs.HasAt.{position_first}
 use Rattle.runs.proofs.Blocks.{joined_first}
 
@@ -31,18 +31,18 @@ module _ {A : Type 0} where
   joined_joined (g ∷ groups) = joined_append g (joined groups) ∙ ap (λ l. joined g ++ l) (joined_joined groups)
 
   -- positions after other lists count on from what these hold
-  position_behind : (ws vs : List (List A)) (k : ℕ) → position (ws ++ vs) (length ws + k) ≡ length (joined ws) + position vs k
-  position_behind [] vs k = let n : 0 + k ≡ k = omega arith in let m : 0 + position vs k ≡ position vs k = omega arith in rw (n, m) refl
-  position_behind (w ∷ ws) vs k =
+  position_after : (ws vs : List (List A)) (k : ℕ) → position (ws ++ vs) (length ws + k) ≡ length (joined ws) + position vs k
+  position_after [] vs k = let n : 0 + k ≡ k = omega arith in let m : 0 + position vs k ≡ position vs k = omega arith in rw (n, m) refl
+  position_after (w ∷ ws) vs k =
       let n : suc (length ws) + k ≡ suc (length ws + k) = omega arith in
-      let rest = position_behind ws vs k in
+      let rest = position_after ws vs k in
       rw n (omega (arith, rest, length-append w (joined ws)))
 
   -- a group begins where its first list does
   pub position_joined : (groups : List (List (List A))) (k : ℕ) → position (joined groups) (position groups k) ≡ position (map joined groups) k
   position_joined [] k = refl
   position_joined (g ∷ groups) zero = position_first (g ++ joined groups)
-  position_joined (g ∷ groups) (suc k) = position_behind g (joined groups) (position groups k) ∙ ap (λ n. length (joined g) + n) (position_joined groups k)
+  position_joined (g ∷ groups) (suc k) = position_after g (joined groups) (position groups k) ∙ ap (λ n. length (joined g) + n) (position_joined groups k)
 
 module _ {A B : Type 0} (f : A → B) where
   pub map_joined : (ws : List (List A)) → map f (joined ws) ≡ joined (map (λ w. map f w) ws)
@@ -69,32 +69,32 @@ grouped_position f groups k =
     ∙ position_joined (map (λ g. map f g) groups) k
     ∙ ap (λ ws. position ws k) (map_map (λ g. map f g) joined groups)
 
-module _ {Op Instr : Type 0} (groups : List (List (Piece Op Instr))) where
+module _ {Op Instr : Type 0} (groups : List (List (Segment Op Instr))) where
   -- all groups have the operations and the instructions of each
   pub group_ops : all_ops (joined groups) ≡ joined (map all_ops groups)
-  group_ops = grouped (λ (p : Piece Op Instr). p.ops) groups
+  group_ops = grouped (λ (p : Segment Op Instr). p.ops) groups
 
   pub group_instrs : all_instrs (joined groups) ≡ joined (map all_instrs groups)
-  group_instrs = grouped (λ (p : Piece Op Instr). p.instrs) groups
+  group_instrs = grouped (λ (p : Segment Op Instr). p.instrs) groups
 
   -- and the first segment of the k-th group begins where the group does
   pub group_op_place : (k : ℕ) → op_place (joined groups) (position groups k) ≡ position (map all_ops groups) k
-  group_op_place k = grouped_position (λ (p : Piece Op Instr). p.ops) groups k
+  group_op_place k = grouped_position (λ (p : Segment Op Instr). p.ops) groups k
 
   pub group_instr_place : (k : ℕ) → instr_place (joined groups) (position groups k) ≡ position (map all_instrs groups) k
-  group_instr_place k = grouped_position (λ (p : Piece Op Instr). p.instrs) groups k
+  group_instr_place k = grouped_position (λ (p : Segment Op Instr). p.instrs) groups k
 
 -- the segments of parts have their operations; their instructions are those of the parts and then the tail
 module _ {Op Instr : Type 0} (lower : List Op → List Instr) (tail : List Instr) where
-  pub pieces_ops : (ps : List (List Op)) → all_ops (pieces_of lower tail ps) ≡ joined ps
-  pieces_ops [] = refl
-  pieces_ops (ops ∷ []) = refl
-  pieces_ops (ops ∷ next ∷ rest) = ap (λ l. ops ++ l) (pieces_ops (next ∷ rest))
+  pub segments_ops : (ps : List (List Op)) → all_ops (segments_of lower tail ps) ≡ joined ps
+  segments_ops [] = refl
+  segments_ops (ops ∷ []) = refl
+  segments_ops (ops ∷ next ∷ rest) = ap (λ l. ops ++ l) (segments_ops (next ∷ rest))
 
-  pub pieces_instrs : (ps : List (List Op)) → all_instrs (pieces_of lower tail ps) ≡ joined (map lower ps) ++ tail
-  pieces_instrs [] = append-nil tail
-  pieces_instrs (ops ∷ []) = append-nil (lower ops ++ tail) ∙ ap (λ l. l ++ tail) (sym (append-nil (lower ops)))
-  pieces_instrs (ops ∷ next ∷ rest) = ap (λ l. lower ops ++ l) (pieces_instrs (next ∷ rest)) ∙ sym (append_assoc (lower ops) (joined (map lower (next ∷ rest))) tail)
+  pub segments_instrs : (ps : List (List Op)) → all_instrs (segments_of lower tail ps) ≡ joined (map lower ps) ++ tail
+  segments_instrs [] = append-nil tail
+  segments_instrs (ops ∷ []) = append-nil (lower ops ++ tail) ∙ ap (λ l. l ++ tail) (sym (append-nil (lower ops)))
+  segments_instrs (ops ∷ next ∷ rest) = ap (λ l. lower ops ++ l) (segments_instrs (next ∷ rest)) ∙ sym (append_assoc (lower ops) (joined (map lower (next ∷ rest))) tail)
 
 -- one, and then nothing
 module _ {I Target Data End : Type 0} (act : I → Data → Outcome Target Data End) where
@@ -117,10 +117,10 @@ whole_one (Call number d) = refl
 whole_one (Ends f) = tt
 
 -- an operation with one instruction that does the same is a segment, also where it calls the host
-pub carries_one : {Op Instr Target Data End : Type 0} (op_does : Op → Data → Outcome Target Data End) (instr_does : Instr → Data → Outcome Target Data End) (good : Data → Type 0) (op : Op) (i : Instr)
+pub implements_one : {Op Instr Target Data End : Type 0} (op_does : Op → Data → Outcome Target Data End) (instr_does : Instr → Data → Outcome Target Data End) (good : Data → Type 0) (op : Op) (i : Instr)
     → ((d : Data) → good d → instr_does i d ≡ op_does op d) → ((d : Data) → good d → GoodOutcome good (op_does op d))
-    → Carries op_does instr_does good (record { ops = op ∷ []; instrs = i ∷ [] })
-carries_one op_does instr_does good op i same stays = record {
+    → Implements op_does instr_does good (record { ops = op ∷ []; instrs = i ∷ [] })
+implements_one op_does instr_does good op i same stays = record {
   some = omega arith;
   same = λ d g. then_none instr_does (instr_does i d) ∙ same d g ∙ sym (then_none op_does (op_does op d));
   bound = λ d g. rw (one_begun instr_does (instr_does i d), one_begun op_does (op_does op d)) (omega arith);
@@ -134,8 +134,8 @@ carries_one op_does instr_does good op i same stays = record {
 pub call_then : {Op Instr Target Data End : Type 0} (op_does : Op → Data → Outcome Target Data End) (instr_does : Instr → Data → Outcome Target Data End) (good : Data → Type 0) (lower : List Op → List Instr) (tail : List Instr) (ends : Op → Bool)
     (op : Op) (i : Instr) (rest : List Op) → ends op ≡ true → lower (op ∷ []) ≡ i ∷ [] → parts ends rest ≡ rest ∷ []
     → ((d : Data) → good d → instr_does i d ≡ op_does op d) → ((d : Data) → good d → GoodOutcome good (op_does op d))
-    → Carries op_does instr_does good (record { ops = rest; instrs = lower rest ++ tail })
-    → AllByRecursion (Carries op_does instr_does good) (pieces_of lower tail (parts ends (op ∷ rest)))
-call_then op_does instr_does good lower tail ends op i rest call is one same stays carried =
+    → Implements op_does instr_does good (record { ops = rest; instrs = lower rest ++ tail })
+    → AllByRecursion (Implements op_does instr_does good) (segments_of lower tail (parts ends (op ∷ rest)))
+call_then op_does instr_does good lower tail ends op i rest call is one same stays implemented =
     let cut : parts ends (op ∷ rest) ≡ (op ∷ []) ∷ rest ∷ [] = rw (call, one) refl in
-    rw (cut, is) (carries_one op_does instr_does good op i same stays, (carried, tt))
+    rw (cut, is) (implements_one op_does instr_does good op i same stays, (implemented, tt))

@@ -14,10 +14,10 @@ use Rattle.inner_machines.specs.declared.answer.Served.{Served}
 use Rattle.inner_machines.specs.declared.answer.Served.TheVariants as served
 use Rattle.transcript.specs.Hosts.{Reply, HostState, replied, by_replies, reply_or, by_nest, answering, left_of, IsReplied, IsRepliedBy}
 use Rattle.transcript.specs.Ends.{end_of, HasAddress}
-use Rattle.transcript.specs.Telling.{IsAnswered, EndsRun, IsEndedBy, IsReaction, RepliesTo, AnswersCall}
+use Rattle.transcript.specs.WritingRuns.{IsAnswered, EndsRun, IsEndedBy, IsReaction, RepliesTo, AnswersCall}
 use Rattle.transcript.specs.declared.run_end.RunEnd.TheVariants as run_end
 use Rattle.transcript.specs.declared.calls.Reaction.{Reaction}
-use Rattle.transcript.specs.declared.telling.TellFault.TheVariants.{Memory as memory}
+use Rattle.transcript.specs.declared.writing_runs.WriteRunFault.TheVariants.{Memory as memory}
 use Rattle.transcript.specs.declared.calls.Reaction.TheVariants.{GoesOn, Ends}
 
 -- the reply at a place, and those from there on

@@ -2,7 +2,7 @@
 use Rattle.std.specs.Prelude.{ℕ, List, ◌++◌, Option, Some, None, codes}
 use Rattle.std.specs.Fmt.{decimal}
 use Rattle.std.specs.List.{flat_map}
-use Rattle.runs.specs.Runs.{Paid}
+use Rattle.runs.specs.Runs.{MeteredRun}
 use Rattle.machine_state.specs.Ends.{Event, End, Halt, Panic, Fault, Unanswered, BadReply}
 use Rattle.machine_state.specs.Output.{output}
 use Rattle.disasm.specs.Digits.{hex, hex_digits}
@@ -53,5 +53,5 @@ abbrev pub event_lines : List Event → List ℕ
 event_lines events = flat_map event_line events
 
 -- the lines of a run under gas
-abbrev pub transcript : Paid Event End → List ℕ
+abbrev pub transcript : MeteredRun Event End → List ℕ
 transcript run = event_lines run.events ++ last_lines run.end run.left

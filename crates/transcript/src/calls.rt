@@ -1,11 +1,11 @@
 //! How a call of a running machine is answered.
 
 ghost use Rattle.std.specs.Prelude.{◌≤◌, length};
-ghost use Rattle.transcript.specs.Telling.{AnswersCall, RepliesTo};
+ghost use Rattle.transcript.specs.WritingRuns.{AnswersCall, RepliesTo};
 
 use crate::replies::Replies;
 use crate::run_end::RunEnd;
-use crate::telling::TellFault;
+use crate::writing_runs::WriteRunFault;
 use inner_machines::{Nest, Served, calls_panic};
 use pvm_machine::Machine;
 
@@ -28,7 +28,7 @@ pub(crate) fn answer(
     given: u32,
     machine: &mut Machine<'_>,
     number: u64,
-) -> Result<Reaction, TellFault>
+) -> Result<Reaction, WriteRunFault>
     requires { given ≤ length replies.now }
     ensures { AnswersCall number replies.now given nest.old machine.old result nest.new machine.new }
 {
@@ -38,7 +38,7 @@ pub(crate) fn answer(
         Served::Panic => Ok(Reaction::Ends(RunEnd::Panic)),
         Served::OutOfGas => Ok(Reaction::Ends(RunEnd::OutOfGas)),
         Served::NotMine => Ok(reply(replies, given, machine, number)),
-        Served::Memory => Err(TellFault::Memory),
+        Served::Memory => Err(WriteRunFault::Memory),
     }
 }
 

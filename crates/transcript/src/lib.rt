@@ -2,7 +2,7 @@
 //! gas that is left.
 //!
 //! `specs/Grammar.antt` says which files are lists of replies, `specs/Hosts.antt` how they answer calls, `specs/Lines.antt`
-//! has the lines, and `specs/Telling.antt` what a run leaves and writes.
+//! has the lines, and `specs/WritingRuns.antt` what a run leaves and writes.
 #![tactic(auto)]
 
 mod calls;
@@ -13,11 +13,11 @@ mod parts;
 mod replies;
 mod reply_fault;
 mod run_end;
-mod telling;
 mod text;
+mod writing_runs;
 
 pub use lines::{end_lines, event_line};
 pub use replies::Replies;
 pub use reply_fault::ReplyFault;
 pub use run_end::RunEnd;
-pub use telling::{TellFault, tell};
+pub use writing_runs::{WriteRunFault, write_run};

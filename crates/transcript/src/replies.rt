@@ -160,12 +160,12 @@ fn read_pieces(alloc: Global, words: Option<&[u8]>) -> Result<Option<Vec<Piece>>
     let mut pieces = Vec::new(alloc);
     let mut rest = words;
     while let Some(words) = rest {
-        let (word, behind) = first_part(words, b' ');
+        let (word, after) = first_part(words, b' ');
         match Piece::read(alloc, word)? {
             Some(piece) => pieces.push(piece)?,
             None => return Ok(None),
         }
-        rest = behind;
+        rest = after;
     }
     Ok(Some(pieces))
 }
@@ -227,12 +227,12 @@ impl Replies {
         let mut rest = bytes;
         let mut number = 1;
         while !rest.is_empty() {
-            let (line, behind) = first_line(rest);
+            let (line, after) = first_line(rest);
             let Some(reply) = Reply::read(alloc, line)? else {
                 return Err(ReplyFault::BadLine(number));
             };
             push(reply, &mut items)?;
-            rest = behind;
+            rest = after;
             number += 1;
         }
         Ok(Replies { items })

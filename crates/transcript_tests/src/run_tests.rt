@@ -5,7 +5,7 @@ use pvm_machine::Machine;
 use std::alloc::Global;
 use std::process::Abort;
 use std::test::*;
-use transcript::{RunEnd, tell};
+use transcript::{RunEnd, write_run};
 
 /// A container with a stack of 2^16 bytes, whose code is `jump 5`, `ecalli 7` and `jump_ind ra, 0`.
 const CALLS: [u8; 29] = [
@@ -64,7 +64,7 @@ fn run_one(
     let mut machine = Machine::start(alloc, &container, 0, &[], gas)?;
     let mut out = MemorySink::new(alloc, 400)?;
     let replies = short_replies(alloc, file)?;
-    assert_eq!(rt; tell(alloc, &mut machine, &replies, &mut out), Ok(end));
+    assert_eq!(rt; write_run(alloc, &mut machine, &replies, &mut out), Ok(end));
     assert!(rt; out.bytes().starts_with(CALL.as_bytes()));
     assert!(rt; out.bytes().ends_with(text.as_bytes()));
     assert_eq!(rt; out.bytes().len(), CALL.len() + text.len());
@@ -85,7 +85,7 @@ fn inner_machines_answer_before_replies(rt: HostRuntime) -> Result<(), Fail> {
     let mut out = MemorySink::new(rt.alloc(), 1000)?;
     let replies = short_replies(rt.alloc(), "r7=0 r8=0\n")?;
     assert_eq!(rt;
-        tell(rt.alloc(), &mut machine, &replies, &mut out),
+        write_run(rt.alloc(), &mut machine, &replies, &mut out),
         Ok(RunEnd::Halt)
     );
     let lines =

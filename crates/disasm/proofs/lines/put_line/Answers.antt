@@ -4,14 +4,14 @@ use Rattle.std.specs.List.{slice_range}
 use Rattle.std.proofs.lemmas.Result.{err_from_is_err_and}
 use Rattle.disasm.specs.Digits.{hex, hex_digits}
 use Rattle.disasm.specs.Disassembly.{end_of, instruction, line}
-use Rattle.outside.proofs.Fronts.{AppendsFront-longer}
+use Rattle.outside.proofs.Prefixes.{AppendsPrefix-longer}
 use Rattle.disasm.proofs.Adding.{Adds-kept, Adds-more, Adds-trans, Adds-failed, Adds-stopped}
 use Rattle.disasm.proofs.lines.put_line.Goals as goal
 
 pub returns-in_err-make_room-clause-err : goal.returns-in_err-make_room-clause-err
 returns-in_err-make_room-clause-err g c =
     let p = err_from_is_err_and c.from_residual.result c.from_residual.ensures.1 in
-    rw p.1 (AppendsFront-longer _ _ c.args.text.now.bytes (line c.args.code.now c.args.at) c.in_err-make_room.ensures.err)
+    rw p.1 (AppendsPrefix-longer _ _ c.args.text.now.bytes (line c.args.code.now c.args.at) c.in_err-make_room.ensures.err)
 
 pub returns-in_err-put_bytes-clause-err : goal.returns-in_err-put_bytes-clause-err
 unfolding line

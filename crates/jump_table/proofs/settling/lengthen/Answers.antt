@@ -17,7 +17,7 @@ returns-clause-placed c =
     placed_one _ lens _ c.requires.placed c.args.block c.least_len-len.result c.in-Some.span c.requires.block c.in-Some.ensures c.least_len-len.ensures more
     c.insert.new.self (c.least_len-len.result - c.index-before.result.now) (omega (arith, read, c.if-len-before.false))
     c.insert.ensures.starts_count c.insert.ensures.shifts_count
-    (λ t lt le. c.insert.ensures.before t lt le) (λ t lt less. omega (arith, c.insert.ensures.behind t lt less, c.from.ensures))
+    (λ t lt le. c.insert.ensures.before t lt le) (λ t lt less. omega (arith, c.insert.ensures.after t lt less, c.from.ensures))
     (omega (arith, c.insert.ensures.end, c.from.ensures)) (omega (arith, c.insert.ensures.end, c.from.ensures, c.if-places-lt4.false, few))
 
 pub returns-clause-grown : goal.returns-clause-grown

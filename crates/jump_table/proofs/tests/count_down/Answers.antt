@@ -33,11 +33,11 @@ leave_placeable = record { known = refl; encodable = record { a = omega arith; b
 
 loop_block : IsBlock (record { instrs = add ∷ branch ∷ []; target = Some 0 })
 unfolding form_of
-loop_block = record { front = add ∷ []; last = branch; is = refl; plain = (refl, tt); aimed = refl }
+loop_block = record { front = add ∷ []; last = branch; is = refl; plain = (refl, tt); targeted = refl }
 
 leave_block : IsBlock (record { instrs = leave ∷ []; target = None })
 unfolding form_of
-leave_block = record { front = []; last = leave; is = refl; plain = tt; aimed = refl }
+leave_block = record { front = []; last = leave; is = refl; plain = tt; targeted = refl }
 
 assemblable : IsAssemblable blocks
 assemblable = record {

@@ -13,8 +13,8 @@ use Rattle.lift_blocks.proofs.Choosing.{chosen_at_most, chosen_map}
 use Rattle.lift_blocks.proofs.ListedOps.{count_ops, marks_count, needed_chosen, are_listed, is_list, numbers_len}
 use Rattle.lift_blocks.proofs.listing.list.Goals as goal
 
-pub aimed_marks-requires : goal.aimed_marks-requires
-aimed_marks-requires g c =
+pub targeted_marks-requires : goal.targeted_marks-requires
+targeted_marks-requires g c =
     let survey = c.args.survey in
     let places = survey.places.items in
     let all = all_places g.given in
@@ -36,7 +36,7 @@ emitted_marks-requires g c =
       c.requires.0,
       (
         subst (λ (l : List Site). AreAll g.given (map site_of l)) (sym c.deref-7.ensures.value) c.requires.1.0,
-        (subst (λ (l : List SourceOp). AreOperations g.given all all l) (sym c.deref-8.ensures.value) c.requires.1.1.0, c.deref-9.ensures.value ∙ c.in_ok-aimed.ensures),
+        (subst (λ (l : List SourceOp). AreOperations g.given all all l) (sym c.deref-8.ensures.value) c.requires.1.1.0, c.deref-9.ensures.value ∙ c.in_ok-targeted.ensures),
       ),
     )
 
@@ -54,11 +54,11 @@ pub begins-requires : goal.begins-requires
 begins-requires g c =
     let all = all_places g.given in
     let emitted = c.deref-10.result.now in
-    let aimed_is =
-    c.deref-14.ensures.value ∙ c.marked-aimed.ensures ∙ ap (λ e. chosen e c.in_ok-aimed.aimed.items) (c.deref-12.ensures.value ∙ sym c.deref-10.ensures.value)
-    ∙ ap (chosen emitted) c.in_ok-aimed.ensures
+    let targeted_is =
+    c.deref-14.ensures.value ∙ c.marked-targeted.ensures ∙ ap (λ e. chosen e c.in_ok-targeted.targeted.items) (c.deref-12.ensures.value ∙ sym c.deref-10.ensures.value)
+    ∙ ap (chosen emitted) c.in_ok-targeted.ensures
     in
-    ap length aimed_is ∙ marks_count g.given (chosen emitted all) emitted (at_places all c.args.survey.ops.items) c.in_ok-ops.ops.items c.requires.1.1.0.are c.in_ok-ops.ensures ∙ sym (ap length c.deref-13.ensures.value)
+    ap length targeted_is ∙ marks_count g.given (chosen emitted all) emitted (at_places all c.args.survey.ops.items) c.in_ok-ops.ops.items c.requires.1.1.0.are c.in_ok-ops.ensures ∙ sym (ap length c.deref-13.ensures.value)
 
 pub numbers_of-requires : goal.numbers_of-requires
 numbers_of-requires g c =
@@ -83,14 +83,14 @@ lifted-requires g c =
     let named = c.requires.1.1.1.0 in
     let few = c.requires.1.1.1.1.1.0 in
     let map_is = c.requires.1.1.1.1.1.1.1.0 in
-    let aimed_is =
-    c.deref-14.ensures.value ∙ c.marked-aimed.ensures ∙ ap (λ e. chosen e c.in_ok-aimed.aimed.items) (c.deref-12.ensures.value ∙ sym c.deref-10.ensures.value)
-    ∙ ap (chosen emitted) c.in_ok-aimed.ensures
+    let targeted_is =
+    c.deref-14.ensures.value ∙ c.marked-targeted.ensures ∙ ap (λ e. chosen e c.in_ok-targeted.targeted.items) (c.deref-12.ensures.value ∙ sym c.deref-10.ensures.value)
+    ∙ ap (chosen emitted) c.in_ok-targeted.ensures
     in
     let listed_is = c.deref-15.ensures.value ∙ c.marked-places.ensures ∙ ap (λ e. chosen e places) (c.deref-11.ensures.value ∙ sym c.deref-10.ensures.value) in
     let needed_is = c.deref-17.ensures.value ∙ c.in_ok-needed.ensures ∙ ap (chosen c.deref-2.result.now) c.deref.ensures.value ∙ ap (λ bs. chosen bs places) c.deref-2.ensures.value in
     let same = ap (map site_of) listed_is ∙ sym (chosen_map site_of emitted places) ∙ ap (chosen emitted) all_are in (
-      is_list given places listed c.deref-17.result.now ops emitted c.deref-14.result.now survey.needed.items entries _ all_are (c.deref-10.ensures.value ∙ c.in_ok-emitted.ensures) c.requires.1.1.0.are named aimed_is
+      is_list given places listed c.deref-17.result.now ops emitted c.deref-14.result.now survey.needed.items entries _ all_are (c.deref-10.ensures.value ∙ c.in_ok-emitted.ensures) c.requires.1.1.0.are named targeted_is
           (ap (map site_of) c.deref-16.ensures.value ∙ c.requires.1.1.1.1.0) listed_is needed_is
           (sym (ap (map site_of) c.deref-15.ensures.value))
           (subst (λ (l : List CodePlace). AreNumbered l (chosen emitted ops) (map operation_of found)) (sym same) c.in_ok-ops.ensures)

@@ -1,8 +1,8 @@
 use Rattle.relocs.specs.Pairs.{all_places}
 use Rattle.lift_blocks.proofs.listing.list.Given as goal
 
-abbrev pub ghost-aimed_marks : goal.ghost-aimed_marks
-ghost-aimed_marks g a = g.given
+abbrev pub ghost-targeted_marks : goal.ghost-targeted_marks
+ghost-targeted_marks g a = g.given
 
 abbrev pub ghost-emitted_marks : goal.ghost-emitted_marks
 ghost-emitted_marks g a = g.given

@@ -12,7 +12,7 @@ use Rattle.link_core.proofs.program.finish.Goals as goal
 pub write-requires : goal.write-requires
 write-requires c =
     spelled_is c.args.input.now c.args.lifted c.requires.lifted c.args.images.now c.requires.images c.args.program.now (subst (λ b. Assembles b c.args.program.now) c.requires.blocks c.requires.program)
-    c.images_have_lengths.ensures c.map-map.ensures.few c.fits.ensures.laid_out c.fits.ensures.stack
+    c.images_have_lengths.ensures c.map-map.ensures.few c.fits.ensures.no_layout_fault c.fits.ensures.stack
 
 pub map_text-requires-clause-entries : goal.map_text-requires-clause-entries
 map_text-requires-clause-entries c =
@@ -27,7 +27,7 @@ returns c =
     let assembles = subst (λ b. Assembles b assembled) c.requires.blocks c.requires.program in
     let assemblable = subst IsAssemblable c.requires.blocks c.requires.assemblable in
     holds given c.args.lifted c.requires.lifted c.args.images.now c.requires.images assembled assembles
-    c.linked_agrees.ensures c.images_have_lengths.ensures c.map-map.ensures.few c.fits.ensures.laid_out c.fits.ensures.stack
+    c.linked_agrees.ensures c.images_have_lengths.ensures c.map-map.ensures.few c.fits.ensures.no_layout_fault c.fits.ensures.stack
     assemblable.entries _
     c.in_ok-container.ensures c.into_map.ensures
     (c.in_ok-text.ensures

@@ -14,7 +14,7 @@ pub assemble_blocks-requires : goal.assemble_blocks-requires
 assemble_blocks-requires c =
     let given = c.args.input.now in
     let is = c.in_ok-lifted.ensures.is in
-    subst IsAssemblable (sym c.in_ok-blocks.ensures) (c.blocks_are_carried_out.ensures.placeable given c.in_ok-lifted.lifted is).0
+    subst IsAssemblable (sym c.in_ok-blocks.ensures) (c.blocks_are_implemented.ensures.placeable given c.in_ok-lifted.lifted is).0
 
 pub returns-in_err-program : goal.returns-in_err-program
 returns-in_err-program c =
@@ -25,7 +25,7 @@ pub finish-requires-clause-assemblable : goal.finish-requires-clause-assemblable
 finish-requires-clause-assemblable c =
     let given = c.args.input.now in
     let is = c.in_ok-lifted.ensures.is in
-    subst IsAssemblable (sym c.in_ok-blocks.ensures) (c.blocks_are_carried_out.ensures.placeable given c.in_ok-lifted.lifted is).0
+    subst IsAssemblable (sym c.in_ok-blocks.ensures) (c.blocks_are_implemented.ensures.placeable given c.in_ok-lifted.lifted is).0
 
 pub returns : goal.returns
 returns c =

@@ -5,17 +5,17 @@ use Rattle.link_core.specs.Runs.{machine_run}
 use Rattle.polkatool_cmd.specs.Answers.{HoldsExec, HasStartFault}
 use Rattle.polkatool_cmd.specs.ExecRead.{exec_in}
 use Rattle.polkatool_cmd.specs.Running.{HoldsReplies}
-use Rattle.polkatool_cmd.proofs.Execing.{ExecComesTo-no_replies, replies_fault-none, one_container, argument_fits}
-use Rattle.polkatool_cmd.proofs.Answering.{ExecComesTo-told}
+use Rattle.polkatool_cmd.proofs.Execing.{ExecResultsIn-no_replies, replies_fault-none, one_container, argument_fits}
+use Rattle.polkatool_cmd.proofs.Answering.{ExecResultsIn-seen}
 use Rattle.polkatool_cmd.proofs.exec.exec.Goals as goal
 
-pub returns-in-Err-read_replies-clause-comes : goal.returns-in-Err-read_replies-clause-comes
-returns-in-Err-read_replies-clause-comes g c =
-    ExecComesTo-no_replies (exec_in c.args.command.now) _ _ _ c.in-Ok.bundle c.len.result c.in-Ok.ensures.read c.len.ensures.count
+pub returns-in-Err-read_replies-clause-results : goal.returns-in-Err-read_replies-clause-results
+returns-in-Err-read_replies-clause-results g c =
+    ExecResultsIn-no_replies (exec_in c.args.command.now) _ _ _ c.in-Ok.bundle c.len.result c.in-Ok.ensures.read c.len.ensures.count
     (rw (c.in-Ok.ensures.files, c.in-Ok.ensures.reads) at c.in-Err-read_replies.ensures.read) (search rules)
 
-pub returns-in-Err-Bad-start-clause-comes : goal.returns-in-Err-Bad-start-clause-comes
-returns-in-Err-Bad-start-clause-comes g c =
+pub returns-in-Err-Bad-start-clause-results : goal.returns-in-Err-Bad-start-clause-results
+returns-in-Err-Bad-start-clause-results g c =
     let asked = exec_in c.args.command.now in
     let files = g.F.Folder.files c.args.files.now in
     let file = c.as_slice.result.now in
@@ -30,8 +30,8 @@ returns-in-Err-Bad-start-clause-comes g c =
     } in
     (inr (inr (inr (rw c.in-Err-Bad-start.field-0-is holds))), search rules)
 
-pub returns-in-Ok-start-clause-comes : goal.returns-in-Ok-start-clause-comes
-returns-in-Ok-start-clause-comes g c =
+pub returns-in-Ok-start-clause-results : goal.returns-in-Ok-start-clause-results
+returns-in-Ok-start-clause-results g c =
     let asked = exec_in c.args.command.now in
     let files = g.F.Folder.files c.args.files.now in
     let starts = c.in-Ok-start.ensures in
@@ -56,4 +56,4 @@ returns-in-Ok-start-clause-comes g c =
           linked.agrees asked.settings.entry asked.settings.argument replies within
           (argument_fits asked.settings.entry asked.settings.argument _ starts.container starts.no_fault starts.is_container) c.in-Ok-read.ensures.words;
     } in
-    ExecComesTo-told asked _ c.finish.new.machine _ _ _ holds c.finish.ensures (search rules)
+    ExecResultsIn-seen asked _ c.finish.new.machine _ _ _ holds c.finish.ensures (search rules)

@@ -1,13 +1,13 @@
 use Rattle.std.proofs.Common.{◌≡◌, ◌-◌, [], ◌∷◌, length, Some, None, refl, subst, arith}
 use Rattle.machine_state.specs.Ends.{Panic, Fault, Unanswered, event, no_host}
 use Rattle.link_core.specs.Runs.{machine_run}
-use Rattle.polkatool_cmd.specs.Blobs.{TellsText}
+use Rattle.polkatool_cmd.specs.Blobs.{WritesText}
 use Rattle.polkatool_cmd.specs.GenerateAnswers.{generated_gas}
 use Rattle.polkatool_cmd.specs.GenerateRead.{generate_in}
 use Rattle.polkatool_cmd.specs.Lines.{generated_line}
 use Rattle.polkatool_cmd.specs.Snapshot.{Stream}
 use Rattle.polkatool_cmd.specs.declared.status.Status.TheVariants as statuses
-use Rattle.polkatool_cmd.proofs.Generating.{checked-start, has-halted, has-not_halted, line-is, GenerateComesTo-told}
+use Rattle.polkatool_cmd.proofs.Generating.{checked-start, has-halted, has-not_halted, line-is, GenerateResultsIn-seen}
 use Rattle.polkatool_cmd.proofs.generate.run_generated.Goals as goal
 
 pub start-requires : goal.start-requires
@@ -21,10 +21,10 @@ returns-in-Halt g c =
     let new : Stream = record { text = g.O.Sink.bytes c.put_line.new.out; puts = g.O.Sink.faults c.put_line.new.out } in
     let start = rw c.from-gas.ensures at c.in-Ok.ensures in
     let line : c.as_bytes.result.now ≡ generated_line asked.seed asked.count (length c.args.container.now.program.code.bytes) (generated_gas asked - m.gas) m.state.registers = cc in
-    let told = line-is asked c.args.container.now c.requires.no_fault c.requires.is_linked c.in-Ok.machine m start [] c.as_bytes.result.now c.in-Halt.ensures.run line in
-    GenerateComesTo-told asked c.args.container.now (machine_run no_host tt c.args.container.now 0 [] (generated_gas asked)) m.state.registers c.put_line.result old new
+    let seen = line-is asked c.args.container.now c.requires.no_fault c.requires.is_linked c.in-Ok.machine m start [] c.as_bytes.result.now c.in-Halt.ensures.run line in
+    GenerateResultsIn-seen asked c.args.container.now (machine_run no_host tt c.args.container.now 0 [] (generated_gas asked)) m.state.registers c.put_line.result old new
     (has-halted asked c.args.container.now c.requires.no_fault c.requires.is_linked c.in-Ok.machine m start [] c.in-Halt.ensures.run)
-    (subst (λ text. TellsText None text c.put_line.result old new) told c.put_line.ensures)
+    (subst (λ text. WritesText None text c.put_line.result old new) seen c.put_line.ensures)
 
 pub returns-in-Panic : goal.returns-in-Panic
 returns-in-Panic g c =

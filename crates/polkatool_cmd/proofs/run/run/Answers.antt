@@ -5,21 +5,21 @@ use Rattle.polkatool_cmd.specs.Answers.{HoldsRun}
 use Rattle.polkatool_cmd.specs.RunRead.{run_in}
 use Rattle.polkatool_cmd.specs.Running.{HoldsReplies}
 use Rattle.polkatool_cmd.specs.Snapshot.{Holds}
-use Rattle.polkatool_cmd.proofs.Answering.{RunComesTo-told}
-use Rattle.polkatool_cmd.proofs.Blobs.{RunComesTo-unread, RunComesTo-no_replies}
+use Rattle.polkatool_cmd.proofs.Answering.{RunResultsIn-seen}
+use Rattle.polkatool_cmd.proofs.Blobs.{RunResultsIn-unread, RunResultsIn-no_replies}
 use Rattle.polkatool_cmd.proofs.RunFaults.{run_fault-start}
 use Rattle.polkatool_cmd.proofs.run.run.Goals as goal
 
-pub returns-in-Err-clause-comes : goal.returns-in-Err-clause-comes
-returns-in-Err-clause-comes g c = RunComesTo-unread (run_in c.args.command.now) _ _ _ c.in-Err.ensures.read (search rules)
+pub returns-in-Err-clause-results : goal.returns-in-Err-clause-results
+returns-in-Err-clause-results g c = RunResultsIn-unread (run_in c.args.command.now) _ _ _ c.in-Err.ensures.read (search rules)
 
-pub returns-in-Err-read_replies-clause-comes : goal.returns-in-Err-read_replies-clause-comes
-returns-in-Err-read_replies-clause-comes g c =
-    RunComesTo-no_replies (run_in c.args.command.now) _ _ _ c.in-Ok.file c.in-Ok.ensures.read
+pub returns-in-Err-read_replies-clause-results : goal.returns-in-Err-read_replies-clause-results
+returns-in-Err-read_replies-clause-results g c =
+    RunResultsIn-no_replies (run_in c.args.command.now) _ _ _ c.in-Ok.file c.in-Ok.ensures.read
     (rw (c.in-Ok.ensures.files, c.in-Ok.ensures.reads) at c.in-Err-read_replies.ensures.read) (search rules)
 
-pub returns-in-Ok-start-clause-comes : goal.returns-in-Ok-start-clause-comes
-returns-in-Ok-start-clause-comes g c =
+pub returns-in-Ok-start-clause-results : goal.returns-in-Ok-start-clause-results
+returns-in-Ok-start-clause-results g c =
     let asked = run_in c.args.command.now in
     let files = g.F.Folder.files c.args.files.now in
     let starts = c.in-Ok-start.ensures in
@@ -40,4 +40,4 @@ returns-in-Ok-start-clause-comes g c =
       are_replies = c.in-Ok-read.ensures.read;
       run_is = ap (run_with answering (start_host replies)) starts.machine_is;
     } in
-    RunComesTo-told asked _ c.finish.new.machine _ _ _ holds c.finish.ensures (search rules)
+    RunResultsIn-seen asked _ c.finish.new.machine _ _ _ holds c.finish.ensures (search rules)

@@ -1,4 +1,4 @@
-use Rattle.elf_objects.proofs.Sound.{relocation-keeps}
+use Rattle.elf_objects.proofs.Keeping.{relocation-keeps}
 use Rattle.elf_objects.proofs.checked_file.CheckedFile.relocation.Goals as goal
 
 pub returns-clause-keeps : goal.returns-clause-keeps

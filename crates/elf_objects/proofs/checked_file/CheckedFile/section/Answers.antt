@@ -1,4 +1,4 @@
-use Rattle.elf_objects.proofs.Sound.{section-keeps}
+use Rattle.elf_objects.proofs.Keeping.{section-keeps}
 use Rattle.elf_objects.proofs.checked_file.CheckedFile.section.Goals as goal
 
 pub returns-clause-keeps : goal.returns-clause-keeps

@@ -1,4 +1,4 @@
-use Rattle.elf_objects.proofs.Sound.{symbol-keeps}
+use Rattle.elf_objects.proofs.Keeping.{symbol-keeps}
 use Rattle.elf_objects.proofs.checked_file.CheckedFile.symbol.Goals as goal
 
 pub returns-clause-keeps : goal.returns-clause-keeps

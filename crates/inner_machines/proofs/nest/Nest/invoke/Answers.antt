@@ -6,7 +6,7 @@ use Rattle.machine_state.specs.State.{register, with_memory}
 use Rattle.pvm_machine.specs.Stepped.{Stepped}
 use Rattle.inner_machines.specs.Views.{Works}
 use Rattle.page_memory.specs.Ranges.{range_allows}
-use Rattle.inner_machines.specs.Calls.{invoke_call, who, word_at, words_at, worked, with_words, with_worked, told_by, nested}
+use Rattle.inner_machines.specs.Calls.{invoke_call, who, word_at, words_at, worked, with_words, with_worked, reported_by, nested}
 use Rattle.inner_machines.proofs.Free.{free_part, reads_too}
 use Rattle.inner_machines.proofs.Leaving.{leaves, ran_leaves, ran_out}
 use Rattle.inner_machines.proofs.nest.Nest.invoke.Goals as goal
@@ -53,10 +53,10 @@ module _ (c : goal.After-set_frame_limit) where
   inners = rw (← c.register-number.ensures, ← c.register-at.ensures, ← c.memory_mut.ensures.memory) (c.work-exit.ensures.inners c.in-Some._inner.now got)
 
   outer_is : c.set_frame_limit.new.self ≡ record c.args.outer.now {
-    state = (nested (with_memory c.args.outer.now.state (with_words c.args.outer.now.state.memory (register c.args.outer.now.state 8) (after.machine.gas ∷ after.machine.state.registers))) (told_by c.args.outer.now.state.registers after.answer) (with_worked c.args.self.now (register c.args.outer.now.state 7) c.in-Some._inner.now after)).state;
+    state = (nested (with_memory c.args.outer.now.state (with_words c.args.outer.now.state.memory (register c.args.outer.now.state 8) (after.machine.gas ∷ after.machine.state.registers))) (reported_by c.args.outer.now.state.registers after.answer) (with_worked c.args.self.now (register c.args.outer.now.state 7) c.in-Some._inner.now after)).state;
     gas = c.args.outer.now.gas - (c.word-gas.result - c.work-exit.result.1);
   }
-  outer_is = rw (c.set_frame_limit.ensures, c.tell.ensures, c.spend.ensures, c.frames.ensures.value, works.0, ← works.2, ← inners) refl
+  outer_is = rw (c.set_frame_limit.ensures, c.report.ensures, c.spend.ensures, c.frames.ensures.value, works.0, ← works.2, ← inners) refl
 
 pub returns-clause-leaves : goal.returns-clause-leaves
 unfolding invoke_call

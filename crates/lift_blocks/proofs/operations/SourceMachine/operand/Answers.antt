@@ -8,5 +8,5 @@ pub operand-requires : goal.operand-requires
 operand-requires g c =
     let here = sym c.in-Some.ensures.value in
     let first : slice_get (relocations_at g.given c.args.object c.args.section c.args.offset) 0 ≡ Some c.in-Some.relocation.now = ap (λ l. slice_get l 0) (sym c.relocations.ensures.at) ∙ here in
-    let stands = c.relocations.ensures.each.each 0 c.in-Some.relocation.now here in
-    (c.requires.0.sources_are, (c.requires.1.section, (stands.0, (stands.1, unrefused g.given c.args.object c.args.section c.args.offset c.in-Some.relocation.now c.requires.1 first))))
+    let at_its_place = c.relocations.ensures.each.each 0 c.in-Some.relocation.now here in
+    (c.requires.0.sources_are, (c.requires.1.section, (at_its_place.0, (at_its_place.1, unrefused g.given c.args.object c.args.section c.args.offset c.in-Some.relocation.now c.requires.1 first))))

@@ -127,7 +127,7 @@ zeroed_spec {M} 𝓤 𝓛 𝓜 𝓡 wired =
     calls_at ! (fm 𝓛 𝓜 𝓡) Z (zeros_met.met 𝓤 𝓛 𝓜 𝓡 (code.calls-page_memory::frames::zeros 𝓡.env wired)) z (and_then ! (get ! refl) (no_more !)) (λ v.
     use1 𝓛 (later (some (λ (r : (RS.the_row B Er).Denot). (‵ ftrue ⊛ ‵ ((RS.the_row B Er).own_val r (v ∷ []))) ⊛ some (λ (ws : Lasts zeros.ended tt (g, tt)). ‵ (lasts zeros.ended tt (g, tt) ws)
     ⊛ raw (fact 𝓤 (IfOk r (λ b. b.value ≡ replicate 4096 0))))))) (id⊢ 𝓤 _) $
-    await ! tt $ pick ! (λ r. split ! $ move ! (1 ∷ []) $ pick ! (λ ws. split ! $ drop ! $ heard ! (IfOk r (λ b. b.value ≡ replicate 4096 0)) (λ told. split ! $ drop ! $
+    await ! tt $ pick ! (λ r. split ! $ move ! (1 ∷ []) $ pick ! (λ ws. split ! $ drop ! $ heard ! (IfOk r (λ b. b.value ≡ replicate 4096 0)) (λ reported. split ! $ drop ! $
     let En = env (code.function).locals l in
     let both : Body = head (after 1 (code.function).body) in
     let Then : After 𝓤 𝓛.H = any_q (after_seq 𝓤 𝓛.H (Wp 𝓤 𝓛.H 𝓣.C 𝓣.Λ En (after 2 (code.function).body) (at_return 𝓤 𝓛.H En (W.post y))) (at_return 𝓤 𝓛.H En (W.post y))) in
@@ -165,7 +165,7 @@ zeroed_spec {M} 𝓤 𝓛 𝓜 𝓡 wired =
     fpack ! (Valss (RawPtr ∷ heap.the_row ∷ [])) (within (shape C.the_type) (to C.the_type new) (fw ∷ [])) (vptr fb fo ∷ [], (gv ∷ [], tt)) $ fjoin ! $
     use1 𝓛 (‵ ((RS.the_row R Er).own_val (Ok new) (out ∷ []))) (ok_of 𝓛 R Er new fw) $
     returns ! (look_at ! 0 refl) $ free_all ! refl $ keep ! (0 ∷ []) $
-    suffices ! _ (ends_at 𝓛 f.ended stayed c y out (Ok new) (tt, tt) (tt, tt)) $ says ! (subst (λ (r : (RS.the_row B Er).Denot). IfOk r (λ b. b.value ≡ replicate 4096 0)) er told) $
+    suffices ! _ (ends_at 𝓛 f.ended stayed c y out (Ok new) (tt, tt) (tt, tt)) $ says ! (subst (λ (r : (RS.the_row B Er).Denot). IfOk r (λ b. b.value ≡ replicate 4096 0)) er reported) $
     nothing ! $ nothing ! $ join ! $ join ! $ nothing ! $ join ! $ done !)))))))))
     (λ e us er ev. peeks ! Er _ (shows 𝓛 Er) e us (λ is.
     let ew : Val = refused_laws.lowered e in
