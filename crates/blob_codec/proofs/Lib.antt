@@ -4,3 +4,4 @@ pub mod FieldLaws
 pub mod Naturals
 pub mod Programs
 pub mod Containers
+pub mod FromEnds

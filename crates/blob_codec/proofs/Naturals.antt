@@ -9,7 +9,7 @@ use Rattle.blob_codec.specs.Reading.{AreBytes, ◌>>=◌, read_byte, read_number
 use Rattle.blob_codec.proofs.FieldLaws.{bind_ok, kept_ok, Takes, Takes-then, byte_takes, number_takes, low_again, little-above}
 
 -- what holds of the bytes that follow, at each range of the first
-following_is : (P : ℕ → Type 0) (first : ℕ) → (first < 0x80 → P 0) → (0x80 ≤ first → first < 0xc0 → P 1) → (0xc0 ≤ first → first < 0xe0 → P 2)
+pub following_is : (P : ℕ → Type 0) (first : ℕ) → (first < 0x80 → P 0) → (0x80 ≤ first → first < 0xc0 → P 1) → (0xc0 ≤ first → first < 0xe0 → P 2)
     → (0xe0 ≤ first → first < 0xf0 → P 3) → (0xf0 ≤ first → first < 0xf8 → P 4) → (0xf8 ≤ first → first < 0xfc → P 5)
     → (0xfc ≤ first → first < 0xfe → P 6) → (0xfe ≤ first → first < 0xff → P 7) → (0xff ≤ first → P 8) → P (following first)
 unfolding following

@@ -43,7 +43,7 @@ unfolding read_width
 width_again table_len width rest h = rw (ok_width width table_len h) refl
 
 -- what a program begins with, and its spelling
-counts_bytes : Counts → List ℕ
+pub counts_bytes : Counts → List ℕ
 counts_bytes counts = natural counts.table_len ++ (counts.width ∷ []) ++ natural counts.code_len
 
 record AreCounts (counts : Counts) : Type 0 where
@@ -65,6 +65,10 @@ counts_take bytes x h e =
     let made : Counts × List ℕ = (record { table_len = a.0.0; width = b.0.0; code_len = c.0.0 }, c.0.1) in
     subst (λ (y : Counts × List ℕ). Takes bytes (counts_bytes y.0) y.1 × AreCounts y.0) {x = made} {y = x} (ok_is made x c.2)
     (three, record { table_len = first.1; width = second.1; code_len = third.1 })
+
+-- the bytes before what is left
+pub counts_before : (bytes : List ℕ) (x : Counts × List ℕ) → AreBytes bytes → read_counts bytes ≡ Ok x → bytes ≡ counts_bytes x.0 ++ x.1
+counts_before bytes x h e = (counts_take bytes x h e).0.parts
 
 counts_again : (counts : Counts) (rest : List ℕ) → AreCounts counts → read_counts (natural counts.table_len ++ (counts.width ∷ (natural counts.code_len ++ rest))) ≡ Ok (counts, rest)
 unfolding read_counts

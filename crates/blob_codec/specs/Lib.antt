@@ -2,3 +2,4 @@ pub mod Grammar
 pub mod Reading
 pub mod Borrowed
 pub mod Laws
+pub mod Ends

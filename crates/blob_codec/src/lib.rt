@@ -6,6 +6,7 @@
 #![tactic(auto)]
 
 mod container;
+mod ends;
 mod fault;
 mod fields;
 mod laws;
@@ -14,6 +15,7 @@ mod program;
 mod writing;
 
 pub use container::Container;
+pub use ends::{MOST_COUNTS, spells_program};
 pub use fault::BlobFault;
 pub use laws::{containers_are_read, programs_are_read};
 pub use program::Program;

@@ -118,7 +118,7 @@ impl<'a> Program<'a> {
 
 /// The counts and the width off the front.
 #[tactic(auto, unfolding(crate::specs::Reading::read_counts))]
-fn read_counts(bytes: &[u8]) -> Result<(Counts, &[u8]), BlobFault>
+pub(crate) fn read_counts(bytes: &[u8]) -> Result<(Counts, &[u8]), BlobFault>
     ensures value { reading.Gives (λ x. (x.0, x.1.now)) result (reading.read_counts bytes.now) }
     ensures width { IfOk result (λ x. x.0.width ≤ 8) }
 {

@@ -126,6 +126,7 @@ fn reports_the_first_fault_of_a_program(rt: HostRuntime) -> Result<(), Fail> {
     ];
     for (bytes, want) in faulty {
         assert_eq!(rt; Program::read(bytes).err(), Some(want), "at {bytes:?}");
+        assert!(rt; !spelled_by_its_ends(bytes), "at {bytes:?}");
     }
     let whole: [&[u8]; 3] = [
         b"\x00\x00\x00",
@@ -134,8 +135,16 @@ fn reports_the_first_fault_of_a_program(rt: HostRuntime) -> Result<(), Fail> {
     ];
     for bytes in whole {
         assert_eq!(rt; Program::read(bytes).err(), None, "at {bytes:?}");
+        assert!(rt; spelled_by_its_ends(bytes), "at {bytes:?}");
     }
     Ok(())
+}
+
+/// Whether bytes spell a program, seen at their ends.
+fn spelled_by_its_ends(bytes: &[u8]) -> bool {
+    let few = bytes.len().min(MOST_COUNTS);
+    let last = bytes.last().copied().unwrap_or(0);
+    spells_program(&bytes[..few], bytes.len() as u64, last)
 }
 
 /// The container of ten bytes of code, with the bytes of its program from its length on.
