@@ -7,7 +7,8 @@ use Rattle.pvm_machine.specs.Stepped.{Stepped}
 use Rattle.pvm_machine.specs.Machine.{Machine}
 use Rattle.inner_machines.specs.Inner.{Inner, Inners}
 use Rattle.inner_machines.specs.Calls.{nested, answers, ran, reported_by, with_words, with_worked}
-use Rattle.inner_machines.specs.Served.{under_gas}
+use Rattle.inner_machines.specs.Served.{Leaves, under_gas}
+use Rattle.inner_machines.specs.declared.answer.Served.{Served}
 use Rattle.inner_machines.specs.declared.answer.Served.TheVariants.{Done, OutOfGas}
 
 -- the machine that called, with its result, and the inner machines
@@ -18,6 +19,12 @@ leaves m m' inners inners' s word is =
     let test : nat_le 0 m.gas ≡ true = grind (arith, nat_tests) in
     let left : m.gas - 0 ≡ m.gas = omega arith in
     rw (test, left, is) refl
+
+-- so does a call that was served
+pub answered :
+    (m m' : Machine) (inners inners' : Inners) (s : State) (word : ℕ) (how : Served) → how ≡ Done → m' ≡ record m { state = (nested s (slice_set s.registers 7 word) inners').state }
+    → Leaves (under_gas m inners (answers word s inners')) m inners m' inners' how
+answered m m' inners inners' s word how is left = rw is (leaves m m' inners inners' s word left)
 
 -- an inner machine that worked with gas that the calling one has
 pub ran_leaves :

@@ -5,8 +5,11 @@ pub mod Counted
 pub mod Ranges
 pub mod Changed
 pub mod Copying
+pub mod Spelled
 pub mod Free
 pub mod Leaving
+pub mod Moving
+pub mod Making
 pub mod Cases
 pub mod Stay
 pub mod Own

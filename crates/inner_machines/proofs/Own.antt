@@ -1,6 +1,6 @@
 -- Each inner machine is what its own calls alone made of it.
-use Rattle.std.proofs.Common.{◌≡◌, ℕ, zero, suc, ◌+◌, ◌<◌, ◌≤◌, Bool, true, false, List, [], ◌∷◌, length, refl, ap, sym, ◌∙◌, subst, arith, nat_eq, inl, inr, slice_set}
-use Rattle.std.specs.Prelude.{Option, Some, None, is_some, Result, Ok, Err, ◌&&◌, not, nat_lt, if◌then◌else◌, slice_index}
+use Rattle.std.proofs.Common.{◌≡◌, ℕ, ◌+◌, ◌≤◌, Bool, true, false, List, [], ◌∷◌, length, refl, ap, sym, ◌∙◌, subst, arith, nat_eq, inl, inr, slice_set}
+use Rattle.std.specs.Prelude.{Option, Some, None, Result, Ok, Err, ◌&&◌, not, nat_lt, if◌then◌else◌, slice_index}
 use Rattle.std.specs.FinMap as map
 use Rattle.std.specs.Ordering.{nat_cmp}
 use Rattle.std.proofs.lemmas.Bool.{cases_eq, cases_lt, and_parts}
@@ -13,17 +13,13 @@ use Rattle.page_memory.specs.Ranges.{range_allows}
 use Rattle.blob_codec.specs.declared.fault.BlobFault.{BlobFault}
 use Rattle.blob_codec.specs.Grammar.{Program}
 use Rattle.blob_codec.specs.Reading.{program_of}
-use Rattle.inner_machines.specs.Inner.{Inner, Inners, no_inners, most_machines, most_frames, total, frames, free_from, least_free}
+use Rattle.inner_machines.specs.Inner.{Inner, Inners, no_inners, most_machines, most_frames, total, frames, least_free}
 use Rattle.inner_machines.specs.Calls.{answers, panics, placed, made, peeked, poked, changed, paged, invoked, expunged, machine_call, peek_call, poke_call, pages_call, invoke_call, expunge_call, nest_call, new_inner, place_for, is_mapping, means_pages, with_changed_pages, page_after, change_pages, full, ok, huh}
-use Rattle.inner_machines.specs.Laws.{Stays, LeastIsFree, IsLeastFree, Call, made_beside, left_in, result_in, after, is_result, is_refused, is_own, own_calls, made_by, by_calls, HasRegisters, OwnCallsDecide}
+use Rattle.inner_machines.specs.Laws.{Stays, Call, made_beside, left_in, result_in, after, is_result, is_refused, is_own, own_calls, made_by, by_calls, HasRegisters, OwnCallsDecide}
 use Rattle.inner_machines.proofs.Gaps.{get_here, get_other, same_some}
 use Rattle.inner_machines.proofs.Least.{least_free_is}
 use Rattle.inner_machines.proofs.Totals.{total_slot, total_past, total_none}
 use Rattle.inner_machines.proofs.Stay.{others_stay}
-
-none_of : (o : Option Inner) → is_some o ≡ false → o ≡ None
-none_of None e = refl
-none_of (Some inner) e = cc
 
 not_both : {b : Bool} → b ≡ true → b ≡ false → ⊥
 not_both e f = let both : true ≡ false = sym e ∙ f in cc
@@ -48,23 +44,6 @@ free_has_none m n free = (least_free_is m n (sym free)).none
 kept_by : (n : ℕ) (x : Inners) (a : Answer Inners) → Stays n x a → map.get (left_in x a) n ≡ map.get x n
 kept_by n x (Answered spent rest next) stays = stays
 kept_by n x (Ended end) stays = refl
-
--- The least free number: no machine has it, and there is one with each lesser number.
-least_if : (b : Bool) (o : Option Inner) (m : Inners) (at more : ℕ) → map.get m at ≡ o → is_some o ≡ b → ((q : ℕ) → q < at → is_some (map.get m q) ≡ true) → at + suc more ≡ most_machines
-    → (((q : ℕ) → q < at + 1 → is_some (map.get m q) ≡ true) → IsLeastFree m (free_from (at + 1) more m)) → IsLeastFree m (if b then free_from (at + 1) more m else Some at)
-least_if true o m at more got is before ends rest = rest (λ q less. elim (cases_eq q at) [
-  | inl same ↦ ap (λ (n : ℕ). is_some (map.get m n)) same ∙ ap is_some got ∙ is
-  | inr other ↦ before q (omega (arith, less, other))
-])
-least_if false o m at more got is before ends rest = (omega (arith, ends), got ∙ none_of o is, before)
-
-least_from : (more at : ℕ) (m : Inners) → at + more ≡ most_machines → ((q : ℕ) → q < at → is_some (map.get m q) ≡ true) → IsLeastFree m (free_from at more m)
-unfolding free_from
-least_from zero at m ends before = λ q less. before q (omega (arith, ends, less))
-least_from (suc more) at m ends before = least_if (is_some (map.get m at)) (map.get m at) m at more refl refl before ends (λ next. least_from more (at + 1) m (omega (arith, ends)) next)
-
-pub least_is_free : LeastIsFree
-least_is_free m = least_from most_machines 0 m (omega arith) (λ q less. absurd (omega (arith, less)))
 
 -- two answers leave the same machine at a number
 abbrev SameAt : ℕ → Inners → Inners → Answer Inners → Answer Inners → Type 0

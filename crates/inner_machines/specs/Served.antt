@@ -1,9 +1,13 @@
 -- The result of a call on inner machines under gas.
-use Rattle.std.specs.Prelude.{◌≡◌, ◌⊎◌, ℕ, ◌+◌, ◌-◌, nat_le, if◌then◌else◌}
+use Rattle.std.specs.Prelude.{◌≡◌, ◌⊎◌, ℕ, ◌+◌, ◌-◌, true, false, is_ok, is_some, nat_le, if◌then◌else◌}
 use Rattle.machine_state.specs.Ends.{Answer, Answered, Ended}
+use Rattle.machine_state.specs.State.{State, register}
+use Rattle.page_memory.specs.Access.{touched}
+use Rattle.page_memory.specs.Ranges.{range_allows}
+use Rattle.blob_codec.specs.Reading.{program_of}
 use Rattle.pvm_machine.specs.Machine.{Machine}
 use Rattle.inner_machines.specs.Inner.{Inners}
-use Rattle.inner_machines.specs.Calls.{is_nest_call, nest_call}
+use Rattle.inner_machines.specs.Calls.{is_nest_call, nest_call, place_for}
 use Rattle.inner_machines.specs.declared.answer.Served.{Served}
 use Rattle.inner_machines.specs.declared.answer.Served.TheVariants as served
 
@@ -38,3 +42,9 @@ Leaves left m inners m' inners' how = record { outer = m'; inners = inners'; ans
 -- the calls that allocate: `machine` and `pages`
 abbrev pub MayRunOut : ℕ → Type 0
 MayRunOut number = (number ≡ 8) ⊎ (number ≡ 11)
+
+-- the call `machine` makes one: its range may be read and spells a program, and there is room for it
+pub record MakesMachine (s : State) (inners : Inners) : Type 0 where
+  pub allowed : range_allows s.memory false (register s 7) (register s 8) ≡ true
+  pub spelled : is_ok (program_of (touched s.memory (register s 7) (register s 8))) ≡ true
+  pub room : is_some (place_for inners (register s 8)) ≡ true

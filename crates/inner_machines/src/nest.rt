@@ -7,15 +7,14 @@ ghost use Rattle.page_memory.specs.Access.{least_refused};
 ghost use Rattle.pvm_machine.specs.Ran.{last_answer};
 ghost use Rattle.pvm_machine.specs.Outcomes.{with_registers};
 ghost use Rattle.inner_machines.specs.Views.{IsSpelled, Works};
-ghost use Rattle.inner_machines.specs.Served.{Leaves, MayRunOut, under_gas, left_by};
+ghost use Rattle.inner_machines.specs.Served.{Leaves, MakesMachine, MayRunOut, under_gas, left_by};
 
 use crate::answer::Served;
 use crate::changes::{change, means_pages};
-use crate::copies::{allows, bytes_of, copy};
+use crate::copies::{allows, bytes_of, copy, spells};
 use crate::inner::Inner;
 use crate::slots::Slots;
 use crate::words::word;
-use blob_codec::Program;
 use page_memory::{MapFault, Memory};
 use pvm_machine::{Exit, Machine};
 use std::alloc::{AllocError, Global};
@@ -82,6 +81,7 @@ impl Nest {
     pub fn serve(&mut self, outer: &mut Machine<'_>, number: u64) -> Served
         ensures leaves { Leaves (left_by number outer.old self.old) outer.old self.old outer.new self.new result }
         ensures memory { result ≡ Served.Memory → MayRunOut number }
+        ensures room { result ≡ Served.Memory → number ≡ 8 → MakesMachine outer.old.state self.old }
     {
         match number {
             8 => self.machine(outer),
@@ -242,9 +242,10 @@ impl Nest {
         self.answer(outer, OK)
     }
 
-    /// The call `machine`.
+    /// The call `machine`. The range is copied only if it spells a program and there is room for it.
     fn machine(&mut self, outer: &mut Machine<'_>) -> Served
-        ensures { Leaves (under_gas outer.old self.old (machine_call outer.old.state self.old)) outer.old self.old outer.new self.new result }
+        ensures leaves { Leaves (under_gas outer.old self.old (machine_call outer.old.state self.old)) outer.old self.old outer.new self.new result }
+        ensures memory { result ≡ Served.Memory → MakesMachine outer.old.state self.old }
     {
         let at = outer.register(7);
         let len = outer.register(8);
@@ -252,39 +253,43 @@ impl Nest {
         if !allows(outer.memory(), false, at, len) {
             return Served::Panic;
         }
+        if !spells(outer.memory(), at, len) {
+            return self.answer(outer, HUH);
+        }
+        let Some(number) = self.place_for(len) else {
+            return self.answer(outer, FULL);
+        };
         let Ok(bytes) = bytes_of(self.alloc, outer.memory(), at, len) else {
             return Served::Memory;
         };
-        if Program::read(&bytes).is_err() {
-            return self.answer(outer, HUH);
-        }
-        match self.place(bytes, counter) {
-            Ok(Some(number)) => self.answer(outer, number),
-            Ok(None) => self.answer(outer, FULL),
+        match self.place(number, bytes, counter) {
+            Ok(()) => self.answer(outer, number),
             Err(_) => Served::Memory,
         }
     }
 
-    /// Makes a machine of a program if there is room, and returns its number.
-    fn place(&mut self, program: Vec<u8>, counter: u64) -> Result<Option<u64>, AllocError>
-        requires { IsSpelled program.items }
-        ensures number { IfOk result (λ number. number ≡ place_for self.old (length program.items)) }
-        ensures added { IfOk result (λ number. MatchOption number (self.new ≡ self.old) (λ n. self.new ≡ map.insert self.old n (new_inner program.items counter))) }
+    /// The number for a machine whose program has so many bytes, if there is room for it.
+    fn place_for(&self, len: u64) -> Option<u64>
+        ensures { result ≡ place_for self.now len }
+    {
+        if len > u64::from(MOST_PROGRAM_BYTES - self.program_bytes) {
+            return None;
+        }
+        self.slots.least_free()
+    }
+
+    /// Makes a machine of a program, with the number that there is for it.
+    fn place(&mut self, number: u64, program: Vec<u8>, counter: u64) -> Result<(), AllocError>
+        requires spelled { IsSpelled program.items }
+        requires room { place_for self.old (length program.items) ≡ Some number }
+        ensures added { OnOk result (self.new ≡ map.insert self.old number (new_inner program.items counter)) }
         ensures stays { OnErr result (self.new ≡ self.old) }
     {
         let len = program.len();
-        if len > (MOST_PROGRAM_BYTES - self.program_bytes) as usize {
-            return Ok(None);
-        }
-        let inner = Inner::new(self.alloc, program, counter);
-        match self.slots.add(inner) {
-            Ok(Some(number)) => {
-                self.program_bytes += len as u32;
-                Ok(Some(number))
-            }
-            Ok(None) => Ok(None),
-            Err(refused) => Err(refused),
-        }
+        self.slots
+            .add(number, Inner::new(self.alloc, program, counter))?;
+        self.program_bytes += len as u32;
+        Ok(())
     }
 
     /// The call `invoke`.

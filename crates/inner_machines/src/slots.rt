@@ -1,4 +1,4 @@
-ghost use Rattle.std.specs.Prelude.{◌≡◌, ◌<◌, ◌≤◌, ℕ, true, None, is_some, length, IfNone, IfOk, OnErr, IfSome, MatchOption, Some, slice_set};
+ghost use Rattle.std.specs.Prelude.{◌≡◌, ◌<◌, ◌≤◌, ℕ, true, None, is_some, length, IfNone, OnOk, OnErr, IfSome, Some, slice_set};
 ghost use Rattle.std.specs.Option.{option_copied, option_copied_mut};
 ghost use Rattle.std.specs.FinMap as map;
 ghost use Rattle.std.proofs.Math.ListN.{get_or};
@@ -90,22 +90,31 @@ impl Slots {
         self.slots[at].take()
     }
 
-    /// Adds a machine with the least free number, and returns that, if there is one.
-    pub(crate) fn add(&mut self, inner: Inner) -> Result<Option<u64>, AllocError>
-        ensures number { IfOk result (λ number. number ≡ least_free self.old) }
-        ensures added { IfOk result (λ number. MatchOption number (self.new ≡ self.old) (λ n. self.new ≡ map.insert self.old n inner)) }
-        ensures stays { OnErr result (self.new ≡ self.old) }
+    /// The least number that no machine has, if there is one.
+    pub(crate) fn least_free(&self) -> Option<u64>
+        ensures { result ≡ least_free self.now }
     {
         let at = first_gap(&self.slots);
+        if at >= MOST_MACHINES {
+            return None;
+        }
+        Some(at as u64)
+    }
+
+    /// Adds a machine with the least free number.
+    #[tactic(auto, using(crate::proofs::Least::free_below))]
+    pub(crate) fn add(&mut self, number: u64, inner: Inner) -> Result<(), AllocError>
+        requires { least_free self.old ≡ Some number }
+        ensures added { OnOk result (self.new ≡ map.insert self.old number inner) }
+        ensures stays { OnErr result (self.new ≡ self.old) }
+    {
+        let at = number as usize;
         if at < self.slots.len() {
             fill(&mut self.slots, at, inner);
         } else {
-            if at >= MOST_MACHINES {
-                return Ok(None);
-            }
             self.slots.push(Some(inner))?;
         }
-        Ok(Some(at as u64))
+        Ok(())
     }
 }
 
