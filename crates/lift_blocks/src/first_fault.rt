@@ -334,7 +334,7 @@ fn is_complete(op: Option<RvOp>) -> bool
 
 /// Whether an operation needs nothing else, and is no word of a pair.
 #[inline(always)]
-fn is_alone(op: Option<RvOp>) -> bool
+pub(crate) fn is_alone(op: Option<RvOp>) -> bool
     ensures { result ≡ is_it_alone op }
 {
     match op {

@@ -317,7 +317,8 @@ fn link_by(next: Site, register: Reg) -> Option<Site>
     }
 }
 
-fn is_none(relocations: &[Relocation]) -> bool
+#[inline(always)]
+pub(crate) fn is_none(relocations: &[Relocation]) -> bool
     ensures { result ≡ is_none_of relocations.now }
 {
     relocations.is_empty()
