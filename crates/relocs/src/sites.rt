@@ -123,6 +123,7 @@ impl Sources<'_, '_, '_> {
     }
 
     /// Whether a CALL may be at an offset where an `auipc` is.
+    #[inline(always)]
     fn is_joined(&self, first: Option<RvOp>, object: u32, section: u32, offset: u64) -> bool
         ghost given: { Given }
         requires sources { IsSourcesOf given self.now }
