@@ -10,7 +10,7 @@ use Rattle.lift_blocks.specs.Fits.{FitsInstructions}
 use Rattle.lift_blocks.specs.Listing.{IsNumberOf, IsNumbered, has_target}
 use Rattle.lift_blocks.specs.Operations.{Operation, Plain, Branch, Jal, Jalr, Pair, HostCall, Sbrk, rename}
 use Rattle.lift_blocks.specs.Marks.{chosen, counts_from}
-use Rattle.lift_blocks.proofs.ListedOps.{chosen_next, listed_next}
+use Rattle.lift_blocks.proofs.ListedOps.{chosen_next, listed_next, take_next}
 
 -- ---- how many are before each
 
@@ -96,6 +96,16 @@ pub front_marked : {X : Type 0} (bs : List Bool) (xs now new : List X) (i to : �
     → take (to + 1) new ≡ chosen (take (i + 1) bs) (take (i + 1) xs)
 front_marked bs xs now new i to x m rest here was lt is =
     front_written now new to x lt is ∙ ap (λ l. l ++ x ∷ []) was ∙ sym (chosen_next bs xs i true x m (at_rest xs now i x rest here))
+
+-- the next element is marked, and stays where it is
+pub front_stays : {X : Type 0} (bs : List Bool) (xs now : List X) (i : ℕ) (x : X) → slice_get bs i ≡ Some true → drop i now ≡ drop i xs → slice_get now i ≡ Some x → take i now ≡ chosen (take i bs) (take i xs)
+    → take (i + 1) now ≡ chosen (take (i + 1) bs) (take (i + 1) xs)
+front_stays bs xs now i x m rest here was = take_next now i x here ∙ ap (λ l. l ++ x ∷ []) was ∙ sym (chosen_next bs xs i true x m (at_rest xs now i x rest here))
+
+pub some_at : {X : Type 0} (xs : List X) (i : ℕ) → i < length xs → (x : X) × (slice_get xs i ≡ Some x)
+some_at [] i lt = absurd (omega (arith, lt))
+some_at (x ∷ xs) zero lt = (x, refl)
+some_at (x ∷ xs) (suc i) lt = some_at xs i (omega (arith, lt))
 
 -- or it isn't
 chosen_skip : {X : Type 0} (bs : List Bool) (xs : List X) (i : ℕ) → slice_get bs i ≡ Some false → chosen (take (suc i) bs) (take (suc i) xs) ≡ chosen (take i bs) (take i xs)
