@@ -6,7 +6,6 @@ use Rattle.std.proofs.lemmas.Option.{slice_get-get_or, slice_get_within}
 use Rattle.std.specs.List.{cons_option}
 use Rattle.std.specs.Option.{option_map}
 use Rattle.faults.specs.First.{where_true}
-use Rattle.rv_decode.specs.declared.ops.RvOp.TheVariants as rv
 use Rattle.symbols.specs.Wanted.{Given}
 use Rattle.relocs.specs.Pairs.{all_places, next_place}
 use Rattle.relocs.specs.Places.{CodePlace, Nowhere}
