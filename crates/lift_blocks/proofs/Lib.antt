@@ -30,5 +30,6 @@ pub mod ListedOps
 pub mod EntrySites
 pub mod AllOperations
 pub mod PlainWords
+pub mod PlainOps
 pub mod Successor
 pub mod Relisted

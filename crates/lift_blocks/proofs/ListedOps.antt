@@ -40,7 +40,7 @@ or_swap false false = refl
 has_swap : (these others : List CodePlace) (p : CodePlace) → has (these ++ others) p ≡ has (others ++ these) p
 has_swap these others p = list_any-append (same_place p) these others ∙ or_swap (has these p) (has others p) ∙ sym (list_any-append (same_place p) others these)
 
-take_next : {X : Type 0} (xs : List X) (i : ℕ) (x : X) → slice_get xs i ≡ Some x → take (i + 1) xs ≡ take i xs ++ x ∷ []
+pub take_next : {X : Type 0} (xs : List X) (i : ℕ) (x : X) → slice_get xs i ≡ Some x → take (i + 1) xs ≡ take i xs ++ x ∷ []
 take_next {X = X} xs i x e = ap (λ n. take n xs) (add-one i) ∙ by_suc xs i e
   where
     by_suc : (xs : List X) (i : ℕ) → slice_get xs i ≡ Some x → take (suc i) xs ≡ take i xs ++ x ∷ []

@@ -272,6 +272,17 @@ module _ (given : Given) where
       (follows_append (each_below (length given.wanted.imports) (import_stub given)) (trap_stubs given)
       (follows_each (length given.wanted.imports) (import_stub given) stub_follows) trap_follows)
 
+  next_follows : (xs : List CodePlace) → Follows xs → (q : ℕ) (p n : CodePlace) → slice_get xs q ≡ Some p → successor_of given p ≡ Some n → slice_get xs (suc q) ≡ Some n
+  next_follows [] f q p n e h = absurd cc
+  next_follows (x ∷ xs) f zero p n e h =
+      let same : x ≡ p = cc in
+      f.0 n (rw same h)
+  next_follows (x ∷ xs) f (suc q) p n e h = next_follows xs f.1 q p n e h
+
+  -- the place that an operation goes on to is after it among all places
+  pub next_of_all : (q : ℕ) (p n : CodePlace) → slice_get (all_places given) q ≡ Some p → successor_of given p ≡ Some n → slice_get (all_places given) (suc q) ≡ Some n
+  next_of_all q p n e h = next_follows (all_places given) all_follow q p n e h
+
   -- the same of those that pass a test
   filter_follows : (test : CodePlace → Bool) (xs : List CodePlace) → Follows xs → (q : ℕ) (p n : CodePlace) → slice_get (filter test xs) q ≡ Some p → successor_of given p ≡ Some n → test n ≡ true → slice_get (filter test xs) (suc q) ≡ Some n
   filter_follows test [] f q p n e h t = absurd cc

@@ -1,6 +1,7 @@
 -- Words that need nothing else have no fault, and words are four bytes apart.
-use Rattle.std.proofs.Common.{◌≡◌, ℕ, zero, suc, ◌+◌, ◌-◌, ◌*◌, ◌≤◌, ◌<◌, ◌%◌, Bool, true, false, List, [], ◌++◌, inl, inr, Option, Some, None, refl, sym, ap, ◌∙◌, arith}
-use Rattle.std.specs.Prelude.{◌&&◌, nat_eq, nat_le, Result, Ok, Err}
+use Rattle.std.proofs.Common.{◌≡◌, ℕ, zero, suc, ◌+◌, ◌-◌, ◌*◌, ◌≤◌, ◌<◌, ◌%◌, ◌^◌, Bool, true, false, List, [], ◌++◌, length, inl, inr, Option, Some, None, refl, sym, ap, ◌∙◌, arith}
+use Rattle.std.specs.Prelude.{◌&&◌, nat_eq, nat_le, if◌then◌else◌, Result, Ok, Err}
+use Rattle.numbers.specs.Words.{word_of}
 use Rattle.std.proofs.lemmas.Bool.{leb-true}
 use Rattle.std.proofs.Math.Nat.{eq-or-lt_of_le}
 use Rattle.std.specs.List.{filter}
@@ -18,13 +19,14 @@ use Rattle.rv_decode.specs.declared.ops.WordFault.{WordFault}
 use Rattle.relocs.specs.CodeFaults.{fault_at, fault_at_offset, operation_codes, is_entry_at, entry_codes, codes_at, use_codes, word_fault}
 use Rattle.relocs.specs.Operands.{least, listed}
 use Rattle.relocs.specs.ByOffset.{is_at, IsRow}
-use Rattle.relocs.specs.Pairs.{relocation_is_at, relocations_at, is_second, is_pair_at, joins}
-use Rattle.relocs.specs.Places.{Code}
+use Rattle.relocs.specs.Pairs.{relocation_is_at, relocations_at, is_second, is_pair_at, is_place, joins}
+use Rattle.relocs.specs.Places.{Code, code_at}
 use Rattle.relocs.specs.Sites.{IsCodeSection}
-use Rattle.relocs.specs.Words.{word_of_place, raw_at, decoded}
+use Rattle.relocs.specs.Words.{word_of_place, raw_at, decoded, word_in, word_or_trap, is_code_offset, is_offset_in}
+use Rattle.relocs.proofs.AllPlaces.{place_is}
 use Rattle.relocs.proofs.ByOffset.{filter_again}
 use Rattle.relocs.proofs.Parting.{filters_commute}
-use Rattle.lift_blocks.specs.FirstFault.{AreAligned, is_complete, is_alone, is_plain}
+use Rattle.lift_blocks.specs.FirstFault.{AreAligned, is_complete, is_alone, is_plain, ends_no_pair, word_target, leads_on, is_direct}
 use Rattle.lift_blocks.proofs.FirstFault.{both_true, none_is, if_none, complete_codes, each_empty, no_fault}
 
 alone_complete : (op : Option RvOp) → is_alone op ≡ true → is_complete op ≡ true
@@ -41,8 +43,22 @@ alone_complete (Some (rv.Op op rd rs1 rs2)) e = refl
 alone_complete (Some rv.Fence) e = refl
 alone_complete (Some rv.Trap) e = refl
 
+alone_ends : (op : Option RvOp) → is_alone op ≡ true → ends_no_pair op ≡ true
+alone_ends None e = absurd cc
+alone_ends (Some (rv.Lui rd value)) e = refl
+alone_ends (Some (rv.Auipc rd value)) e = absurd cc
+alone_ends (Some (rv.Jal rd offset)) e = absurd cc
+alone_ends (Some (rv.Jalr rd rs1 imm)) e = absurd cc
+alone_ends (Some (rv.Branch cond rs1 rs2 offset)) e = absurd cc
+alone_ends (Some (rv.Load width rd rs1 imm)) e = refl
+alone_ends (Some (rv.Store width rs1 rs2 imm)) e = refl
+alone_ends (Some (rv.OpImm op rd rs1 imm)) e = refl
+alone_ends (Some (rv.Op op rd rs1 rs2)) e = refl
+alone_ends (Some rv.Fence) e = refl
+alone_ends (Some rv.Trap) e = refl
+
 -- with it no pair ends
-joins_none : (first second : Option RvOp) → is_alone second ≡ true → joins first second ≡ false
+joins_none : (first second : Option RvOp) → ends_no_pair second ≡ true → joins first second ≡ false
 joins_none None second e = refl
 joins_none (Some (rv.Lui rd value)) second e = refl
 joins_none (Some (rv.Jal rd offset)) second e = refl
@@ -67,7 +83,7 @@ joins_none (Some (rv.Auipc rd value)) (Some (rv.Op op rd' rs1 rs2)) e = refl
 joins_none (Some (rv.Auipc rd value)) (Some rv.Fence) e = refl
 joins_none (Some (rv.Auipc rd value)) (Some rv.Trap) e = refl
 
-no_second : (given : Given) (o s f : ℕ) → is_alone (raw_at given (Code o s f)) ≡ true → is_second given (Code o s f) ≡ false
+no_second : (given : Given) (o s f : ℕ) → ends_no_pair (raw_at given (Code o s f)) ≡ true → is_second given (Code o s f) ≡ false
 unfolding is_pair_at
 no_second given o s f e = by_size (nat_le 4 f) refl
   where
@@ -80,14 +96,16 @@ no_second given o s f e = by_size (nat_le 4 f) refl
         ap (λ k. joins (raw_at given (Code o s (f - 4))) (raw_at given (Code o s k))) here ∙ joins_none (raw_at given (Code o s (f - 4))) (raw_at given (Code o s f)) e in
         rw none refl
 
-no_word_fault : (w : Option (Result RvOp WordFault)) → is_alone (decoded w) ≡ true → word_fault w ≡ None
+no_word_fault : (w : Option (Result RvOp WordFault)) → ends_no_pair (decoded w) ≡ true → word_fault w ≡ None
 no_word_fault None e = absurd cc
 no_word_fault (Some (Ok op)) e = refl
 no_word_fault (Some (Err fault)) e = absurd cc
 
-no_codes : (given : Given) (o s f : ℕ) → is_alone (raw_at given (Code o s f)) ≡ true → relocations_at given o s f ≡ [] → (codes_at given o s f ++ entry_codes given o s f) ≡ []
-no_codes given o s f e none =
-    let operation = complete_codes given o s f (raw_at given (Code o s f)) (alone_complete (raw_at given (Code o s f)) e) in
+-- an operation that has none of its own, and with which no pair ends, has no fault without relocations
+no_codes :
+    (given : Given) (o s f : ℕ) → ends_no_pair (raw_at given (Code o s f)) ≡ true → operation_codes given o s f (raw_at given (Code o s f)) [] ≡ [] → relocations_at given o s f ≡ []
+    → (codes_at given o s f ++ entry_codes given o s f) ≡ []
+no_codes given o s f e operation none =
     let uses : use_codes given o s f ≡ [] = rw none (ap (λ l. l ++ []) (if_none (is_second given (Code o s f)) (operation_codes given o s f (raw_at given (Code o s f)) []) operation)) in
     let codes : codes_at given o s f ≡ [] = ap (λ w. listed w ++ use_codes given o s f) (no_word_fault (word_of_place given (Code o s f)) e) ∙ uses in
     let entries : entry_codes given o s f ≡ [] = each_empty _ (λ k. is_entry_at o s f (entry_place given k)) (is_second given (Code o s f)) (no_second given o s f e) in
@@ -96,8 +114,64 @@ no_codes given o s f e none =
 -- such a word has no fault
 pub no_fault_at : (given : Given) (o s f : ℕ) → is_plain given o s f ≡ true → fault_at_offset given o s f ≡ None
 no_fault_at given o s f e =
-    let both = both_true (is_alone (raw_at given (Code o s f))) _ e in
-    ap (λ l. option_map (fault_at o s f) (least l)) (no_codes given o s f both.0 (none_is (relocations_at given o s f) both.1))
+    let op = raw_at given (Code o s f) in
+    let both = both_true (is_alone op) _ e in
+    ap (λ l. option_map (fault_at o s f) (least l)) (no_codes given o s f (alone_ends op both.0) (complete_codes given o s f op (alone_complete op both.0)) (none_is (relocations_at given o s f) both.1))
+
+-- ---- branches and jal
+
+there_offset : (code : Option (List ℕ)) (f : ℕ) → ends_no_pair (decoded (word_in code f)) ≡ true → is_offset_in code f ≡ true
+there_offset None f e = absurd cc
+there_offset (Some bytes) f e = by_offset (is_code_offset (length bytes) f) refl e
+  where
+    by_offset : (b : Bool) → is_code_offset (length bytes) f ≡ b → ends_no_pair (decoded (if b then Some (word_or_trap bytes f) else None)) ≡ true → is_code_offset (length bytes) f ≡ true
+    by_offset true g e = g
+    by_offset false g e = absurd cc
+
+-- a word with which no pair ends is at a place
+place_there : (given : Given) (o s f : ℕ) → ends_no_pair (raw_at given (Code o s f)) ≡ true → is_place given (Code o s f) ≡ true
+place_there given o s f e = place_is given o s f ∙ rw (no_second given o s f e, there_offset (code_at given o s) f e) refl
+
+none_if : (b : Bool) (code : ℕ) → b ≡ true → listed (if b then None else Some code) ≡ []
+none_if true code e = refl
+none_if false code e = absurd cc
+
+direct_codes : (given : Given) (o s f : ℕ) (op : Option RvOp) → leads_on given (word_target o s f op) ≡ true → operation_codes given o s f op [] ≡ []
+direct_codes given o s f None e = absurd cc
+direct_codes given o s f (Some (rv.Lui rd value)) e = absurd cc
+direct_codes given o s f (Some (rv.Auipc rd value)) e = absurd cc
+direct_codes given o s f (Some (rv.Jal rd by)) e = none_if _ _ (place_there given o s ((f + word_of by) % 2 ^ 64) e)
+direct_codes given o s f (Some (rv.Jalr rd rs1 imm)) e = absurd cc
+direct_codes given o s f (Some (rv.Branch cond rs1 rs2 by)) e = none_if _ _ (place_there given o s ((f + word_of by) % 2 ^ 64) e)
+direct_codes given o s f (Some (rv.Load width rd rs1 imm)) e = absurd cc
+direct_codes given o s f (Some (rv.Store width rs1 rs2 imm)) e = absurd cc
+direct_codes given o s f (Some (rv.OpImm op rd rs1 imm)) e = absurd cc
+direct_codes given o s f (Some (rv.Op op rd rs1 rs2)) e = absurd cc
+direct_codes given o s f (Some rv.Fence) e = absurd cc
+direct_codes given o s f (Some rv.Trap) e = absurd cc
+
+direct_ends : (given : Given) (o s f : ℕ) (op : Option RvOp) → leads_on given (word_target o s f op) ≡ true → ends_no_pair op ≡ true
+direct_ends given o s f None e = absurd cc
+direct_ends given o s f (Some (rv.Lui rd value)) e = refl
+direct_ends given o s f (Some (rv.Auipc rd value)) e = refl
+direct_ends given o s f (Some (rv.Jal rd by)) e = refl
+direct_ends given o s f (Some (rv.Jalr rd rs1 imm)) e = absurd cc
+direct_ends given o s f (Some (rv.Branch cond rs1 rs2 by)) e = refl
+direct_ends given o s f (Some (rv.Load width rd rs1 imm)) e = refl
+direct_ends given o s f (Some (rv.Store width rs1 rs2 imm)) e = refl
+direct_ends given o s f (Some (rv.OpImm op rd rs1 imm)) e = refl
+direct_ends given o s f (Some (rv.Op op rd rs1 rs2)) e = refl
+direct_ends given o s f (Some rv.Fence) e = refl
+direct_ends given o s f (Some rv.Trap) e = refl
+
+-- a branch or a jal to such a word has no fault without relocations
+pub no_direct_fault : (given : Given) (o s f : ℕ) → is_direct given o s f ≡ true → fault_at_offset given o s f ≡ None
+no_direct_fault given o s f e =
+    let op = raw_at given (Code o s f) in
+    let both = both_true (leads_on given (word_target o s f op)) _ e in
+    ap (λ l. option_map (fault_at o s f) (least l)) (no_codes given o s f (direct_ends given o s f op both.0) (direct_codes given o s f op both.0) (none_is (relocations_at given o s f) both.1))
+
+pub ruleset no_faults = (no_fault_at, no_direct_fault)
 
 -- ---- words in a row
 

@@ -6,9 +6,11 @@ use Rattle.std.proofs.lemmas.List.{append-nil, take_more_set, drop-set-lt, drop-
 use Rattle.std.proofs.lemmas.Option.{slice_get-get_or, slice_get_within}
 use Rattle.relocs.specs.Places.{CodePlace, Nowhere}
 use Rattle.lift_blocks.specs.Listed.{place, or_nowhere}
-use Rattle.lift_blocks.specs.Listing.{IsNumberOf}
+use Rattle.lift_blocks.specs.Fits.{FitsInstructions}
+use Rattle.lift_blocks.specs.Listing.{IsNumberOf, IsNumbered, has_target}
+use Rattle.lift_blocks.specs.Operations.{Operation, Plain, Branch, Jal, Jalr, Pair, HostCall, Sbrk, rename}
 use Rattle.lift_blocks.specs.Marks.{chosen, counts_from}
-use Rattle.lift_blocks.proofs.ListedOps.{chosen_next, listed_next}
+use Rattle.lift_blocks.proofs.ListedOps.{chosen_next, listed_next, take_next}
 
 -- ---- how many are before each
 
@@ -95,6 +97,16 @@ pub front_marked : {X : Type 0} (bs : List Bool) (xs now new : List X) (i to : �
 front_marked bs xs now new i to x m rest here was lt is =
     front_written now new to x lt is ∙ ap (λ l. l ++ x ∷ []) was ∙ sym (chosen_next bs xs i true x m (at_rest xs now i x rest here))
 
+-- the next element is marked, and stays where it is
+pub front_stays : {X : Type 0} (bs : List Bool) (xs now : List X) (i : ℕ) (x : X) → slice_get bs i ≡ Some true → drop i now ≡ drop i xs → slice_get now i ≡ Some x → take i now ≡ chosen (take i bs) (take i xs)
+    → take (i + 1) now ≡ chosen (take (i + 1) bs) (take (i + 1) xs)
+front_stays bs xs now i x m rest here was = take_next now i x here ∙ ap (λ l. l ++ x ∷ []) was ∙ sym (chosen_next bs xs i true x m (at_rest xs now i x rest here))
+
+pub some_at : {X : Type 0} (xs : List X) (i : ℕ) → i < length xs → (x : X) × (slice_get xs i ≡ Some x)
+some_at [] i lt = absurd (omega (arith, lt))
+some_at (x ∷ xs) zero lt = (x, refl)
+some_at (x ∷ xs) (suc i) lt = some_at xs i (omega (arith, lt))
+
 -- or it isn't
 chosen_skip : {X : Type 0} (bs : List Bool) (xs : List X) (i : ℕ) → slice_get bs i ≡ Some false → chosen (take (suc i) bs) (take (suc i) xs) ≡ chosen (take i bs) (take i xs)
 chosen_skip [] xs i e = absurd cc
@@ -105,3 +117,15 @@ chosen_skip (c ∷ bs) (y ∷ xs) (suc i) e = ap (λ l. cond c (y ∷ l) l) (cho
 
 pub front_unmarked : {X : Type 0} (bs : List Bool) (xs now : List X) (i to : ℕ) → slice_get bs i ≡ Some false → take to now ≡ chosen (take i bs) (take i xs) → take to now ≡ chosen (take (i + 1) bs) (take (i + 1) xs)
 front_unmarked bs xs now i to m was = was ∙ sym (chosen_skip bs xs i m) ∙ ap (λ n. chosen (take n bs) (take n xs)) (sym (add-one i))
+
+-- ---- operations without a target
+
+-- an operation without a target is its own number among any places
+pub untargeted : (places kept : List CodePlace) (op : Operation ℕ) → has_target op ≡ false → FitsInstructions op → IsNumbered kept (rename (place places) op) op
+untargeted places kept (Plain op) e fits = record { is = refl; fits = fits; target = λ t h. absurd cc }
+untargeted places kept (Branch cond rs1 rs2 target) e fits = absurd cc
+untargeted places kept (Jal rd link target) e fits = absurd cc
+untargeted places kept (Jalr rd rs1 imm link) e fits = record { is = refl; fits = fits; target = λ t h. absurd cc }
+untargeted places kept (Pair temp rd link target) e fits = absurd cc
+untargeted places kept (HostCall number) e fits = record { is = refl; fits = fits; target = λ t h. absurd cc }
+untargeted places kept Sbrk e fits = record { is = refl; fits = fits; target = λ t h. absurd cc }

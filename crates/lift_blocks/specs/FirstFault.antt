@@ -11,10 +11,10 @@ use Rattle.symbols.specs.Faults.{has_effect}
 use Rattle.symbols.specs.Resolution.{entry_place}
 use Rattle.symbols.specs.Wanted.{Given}
 use Rattle.layout.specs.Slots.{is_among}
-use Rattle.relocs.specs.CodeFaults.{is_entry_at}
+use Rattle.relocs.specs.CodeFaults.{is_entry_at, own_target}
 use Rattle.relocs.specs.ByOffset.{AreTables}
 use Rattle.relocs.specs.Pairs.{relocation_is_at, relocations_at, is_none_of}
-use Rattle.relocs.specs.Places.{Code}
+use Rattle.relocs.specs.Places.{CodePlace, Code}
 use Rattle.relocs.specs.Sources.{IsSourcesOf}
 use Rattle.relocs.specs.Words.{raw_at}
 use Rattle.lift_blocks.specs.declared.first_fault.CodeFaults.{CodeFaults}
@@ -63,6 +63,26 @@ is_alone (Some op) = true
 -- at an offset is such an operation, and no relocation
 abbrev pub is_plain : Given → ℕ → ℕ → ℕ → Bool
 is_plain given o s offset = is_alone (raw_at given (Code o s offset)) && is_none_of (relocations_at given o s offset)
+
+-- an operation that is no jalr, with which alone a pair ends
+abbrev pub ends_no_pair : Option RvOp → Bool
+ends_no_pair None = false
+ends_no_pair (Some (rv.Jalr rd rs1 imm)) = false
+ends_no_pair (Some op) = true
+
+-- where the word of a branch or of a jal leads
+abbrev pub word_target : ℕ → ℕ → ℕ → Option RvOp → Option CodePlace
+word_target o s offset None = None
+word_target o s offset (Some op) = own_target o s offset op
+
+-- there is such an operation at a place
+abbrev pub leads_on : Given → Option CodePlace → Bool
+leads_on given None = false
+leads_on given (Some p) = ends_no_pair (raw_at given p)
+
+-- at an offset is a branch or a jal, and no relocation, and where it leads is such an operation
+abbrev pub is_direct : Given → ℕ → ℕ → ℕ → Bool
+is_direct given o s offset = leads_on given (word_target o s offset (raw_at given (Code o s offset))) && is_none_of (relocations_at given o s offset)
 
 -- the objects of a link, with what their relocations mean and the places of their entries
 pub record IsCodeOf (given : Given) (code : CodeFaults) : Type 0 where

@@ -1,10 +1,10 @@
 -- The operations at all places, and those that are listed in code order.
-use Rattle.std.specs.Prelude.{◌≡◌, ℕ, ◌<◌, ◌≤◌, ◌^◌, List, [], ◌∷◌, length, map, Some, Bool, ◌||◌}
+use Rattle.std.specs.Prelude.{◌≡◌, ℕ, ◌<◌, ◌≤◌, ◌^◌, List, [], ◌∷◌, length, map, Some, Bool, true, false, ◌||◌}
 use Rattle.std.specs.List.{AllByRecursion}
 use Rattle.symbols.specs.Wanted.{Given}
 use Rattle.relocs.specs.Places.{CodePlace}
 use Rattle.lift_blocks.specs.declared.source_op.SourceOp.{SourceOp}
-use Rattle.lift_blocks.specs.Operations.{Operation, rename, operation_at}
+use Rattle.lift_blocks.specs.Operations.{Operation, Branch, Jal, Pair, rename, operation_at}
 use Rattle.lift_blocks.specs.Fits.{FitsInstructions}
 use Rattle.lift_blocks.specs.Kept.{operation_of}
 use Rattle.lift_blocks.specs.Listed.{ends_block, target_of, place}
@@ -14,6 +14,13 @@ use Rattle.lift_blocks.specs.Rank.{Ascends}
 pub record IsNumberOf (places : List CodePlace) (p : CodePlace) (number : ℕ) : Type 0 where
   pub is : place places number ≡ p
   pub exists : number < length places
+
+-- it names a target
+abbrev pub has_target : {Target : Type 0} → Operation Target → Bool
+has_target (Branch cond rs1 rs2 target) = true
+has_target (Jal rd link target) = true
+has_target (Pair temp rd link target) = true
+has_target op = false
 
 -- its target, if it has one, is below a count
 abbrev pub HasTargetIn : ℕ → Operation ℕ → Type 0

@@ -14,7 +14,8 @@ ghost use Rattle.relocs.specs.Pairs.{is_second as is_the_second};
 ghost use Rattle.relocs.specs.Places.{Code, code_at};
 ghost use Rattle.relocs.specs.Sites.{IsCodeSection};
 ghost use Rattle.relocs.specs.Sources.{IsSourcesOf};
-ghost use Rattle.lift_blocks.specs.FirstFault.{has_entry, AreEntries, AreAligned, IsCodeOf, is_complete as is_it_complete, is_bare as is_it_bare, is_alone as is_it_alone, is_plain as is_it_plain, unaligned_offset as the_unaligned_offset};
+ghost use Rattle.relocs.specs.Words.{raw_at};
+ghost use Rattle.lift_blocks.specs.FirstFault.{has_entry, AreEntries, AreAligned, IsCodeOf, is_complete as is_it_complete, is_bare as is_it_bare, is_alone as is_it_alone, is_plain as is_it_plain, is_direct as is_it_direct, ends_no_pair as does_it_end_none, word_target, leads_on as does_it_lead_on, unaligned_offset as the_unaligned_offset};
 
 use crate::named_places::Named;
 use crate::reader::Reader;
@@ -218,7 +219,7 @@ impl CodeFaults<'_, '_> {
     }
 
     /// The fault at an offset, which is most likely a word without one.
-    #[tactic(auto, using(crate::proofs::PlainWords::no_fault_at))]
+    #[tactic(auto, using(crate::proofs::PlainWords::no_faults))]
     #[inline(always)]
     fn fault_at_word(&self, object: u32, section: u32, offset: u64) -> Option<Fault>
         ghost given: { Given }
@@ -226,7 +227,7 @@ impl CodeFaults<'_, '_> {
         requires section { IsCodeSection given object section }
         ensures { result ≡ fault_at_offset given object section offset }
     {
-        if self.is_plain(object, section, offset) {
+        if self.is_plain(object, section, offset) || self.is_direct(object, section, offset) {
             return None;
         }
         let code = self.least_code(object, section, offset)?;
@@ -248,6 +249,55 @@ impl CodeFaults<'_, '_> {
     {
         is_alone(self.reader.op_at(object, section, offset))
             && self.reader.relocations(object, section, offset).is_empty()
+    }
+
+    /// Whether a branch or a `jal` is at an offset, and no relocation, and a word with which no pair ends is where it leads.
+    #[inline(always)]
+    fn is_direct(&self, object: u32, section: u32, offset: u64) -> bool
+        ghost given: { Given }
+        requires code { IsCodeOf given self.now }
+        requires section { IsCodeSection given object section }
+        ensures { result ≡ is_it_direct given object section offset }
+    {
+        self.leads_on(
+            self.reader.op_at(object, section, offset),
+            object,
+            section,
+            offset,
+        ) && self.reader.relocations(object, section, offset).is_empty()
+    }
+
+    /// Whether an operation at an offset is a branch or a `jal` whose word leads to one with which no pair ends.
+    #[inline(always)]
+    fn leads_on(&self, op: Option<RvOp>, object: u32, section: u32, offset: u64) -> bool
+        ghost given: { Given }
+        requires code { IsCodeOf given self.now }
+        requires section { IsCodeSection given object section }
+        ensures { result ≡ does_it_lead_on given (word_target object section offset op) }
+    {
+        match op {
+            Some(RvOp::Jal { offset: by, .. }) => {
+                self.ends_no_pair(object, section, offset.wrapping_add_signed(i64::from(by)))
+            }
+            Some(RvOp::Branch { offset: by, .. }) => {
+                self.ends_no_pair(object, section, offset.wrapping_add_signed(i64::from(by)))
+            }
+            _ => false,
+        }
+    }
+
+    /// Whether an operation is at an offset, and no `jalr`.
+    #[inline(always)]
+    fn ends_no_pair(&self, object: u32, section: u32, offset: u64) -> bool
+        ghost given: { Given }
+        requires code { IsCodeOf given self.now }
+        requires section { IsCodeSection given object section }
+        ensures { result ≡ does_it_end_none (raw_at given (Code object section offset)) }
+    {
+        match self.reader.op_at(object, section, offset) {
+            Some(op) => !matches!(op, RvOp::Jalr { .. }),
+            None => false,
+        }
     }
 
     /// The least code of the faults at an offset.
@@ -334,7 +384,7 @@ fn is_complete(op: Option<RvOp>) -> bool
 
 /// Whether an operation needs nothing else, and is no word of a pair.
 #[inline(always)]
-fn is_alone(op: Option<RvOp>) -> bool
+pub(crate) fn is_alone(op: Option<RvOp>) -> bool
     ensures { result ≡ is_it_alone op }
 {
     match op {

@@ -1,6 +1,6 @@
 //! The lifting of objects.
 
-ghost use Rattle.std.specs.Prelude.{◌≡◌, ◌≤◌, ◌^◌, [], length, map as each, IfOk, MatchResult};
+ghost use Rattle.std.specs.Prelude.{◌≡◌, ◌≤◌, ◌^◌, [], true, length, map as each, Some, IfOk, MatchResult};
 ghost use Rattle.symbols.specs.Faults.{symbol_faults};
 ghost use Rattle.symbols.specs.Resolved.{IsResolved};
 ghost use Rattle.symbols.specs.Wanted.{Given, Wanted as TheWanted, given_of};
@@ -8,12 +8,13 @@ ghost use Rattle.layout.specs.Placed.{IsPlaced};
 ghost use Rattle.relocs.specs.AddressMap.{needed_places};
 ghost use Rattle.relocs.specs.CodeFaults.{code_faults};
 ghost use Rattle.relocs.specs.ByOffset.{HasTables, AreTables};
-ghost use Rattle.relocs.specs.Pairs.{all_places};
-ghost use Rattle.lift_blocks.specs.Kept.{site_of, Refuses};
+ghost use Rattle.relocs.specs.Pairs.{all_places, is_place};
+ghost use Rattle.lift_blocks.specs.Kept.{site_of, operation_of, Refuses};
 ghost use Rattle.lift_blocks.specs.Known.{AreAll};
-ghost use Rattle.lift_blocks.specs.Listed.{Lifts};
-ghost use Rattle.lift_blocks.specs.Listing.{AreListed, AreOperations};
+ghost use Rattle.lift_blocks.specs.Listed.{Lifts, place as place_in};
+ghost use Rattle.lift_blocks.specs.Listing.{AreListed, AreOperations, IsNumbered};
 ghost use Rattle.lift_blocks.specs.Lifting.{ArePlaces, IsLink, HaveSmallNumbers};
+ghost use Rattle.lift_blocks.specs.Operations.{operation_at, rename};
 ghost use Rattle.lift_blocks.specs.PlacedOps.{IsMachineOf};
 
 use crate::entries::entry_sites;
@@ -201,9 +202,29 @@ impl SourceMachine<'_, '_, '_> {
         let numbers = Numbers { places: &*places };
         let mut ops = Vec::with_capacity(alloc, places.len())?;
         for at in 0..places.len() {
-            let placed = self.operation(places[at]);
-            ops.push(numbers.operation(placed, at)?)?;
+            ops.push(self.numbered(&numbers, places[at], at)?)?;
         }
         Ok(ops)
+    }
+
+    /// The operation at a place, with the number of its target.
+    #[inline(always)]
+    fn numbered(
+        &self,
+        numbers: &Numbers<'_>,
+        place: Site,
+        at: usize,
+    ) -> Result<SourceOp, AllocError>
+        ghost given: { Given }
+        requires machine { IsMachineOf given self.now }
+        requires place { is_place given (site_of place) ≡ true }
+        requires listed { AreListed (each site_of numbers.now.places.now) }
+        ensures value { IfOk result (λ op. operation_at given (site_of place) ≡ Some (rename (place_in (each site_of numbers.now.places.now)) (operation_of op))) }
+        ensures numbered { IfOk result (λ op. IsNumbered (each site_of numbers.now.places.now) (rename (place_in (each site_of numbers.now.places.now)) (operation_of op)) (operation_of op)) }
+    {
+        match self.plain(place) {
+            Some(op) => Ok(SourceOp::Plain(op)),
+            None => numbers.operation(self.operation(place), at),
+        }
     }
 }

@@ -1,23 +1,23 @@
 //! The operations in code order, from the operations at all places.
 
-ghost use Rattle.std.specs.Prelude.{◌≡◌, ◌≤◌, ◌^◌, ◌||◌, ◌++◌, not, true, false, length, map, map as each, Some, IfOk};
-ghost use Rattle.std.specs.List.{filter_map};
+ghost use Rattle.std.specs.Prelude.{◌≡◌, ◌<◌, ◌≤◌, ◌^◌, ◌||◌, ◌++◌, [], not, true, length, map, map as each, Some, IfOk};
+ghost use Rattle.std.specs.List.{cons_option, filter_map};
 ghost use Rattle.std.specs.Option.{option_map};
 ghost use Rattle.symbols.specs.Wanted.{Given};
 ghost use Rattle.relocs.specs.AddressMap.{named_places, needed_places};
 ghost use Rattle.relocs.specs.ByOffset.{AreTables};
 ghost use Rattle.relocs.specs.Places.{has};
-ghost use Rattle.relocs.specs.Pairs.{all_places, is_pair, next_place as the_next_place};
+ghost use Rattle.relocs.specs.Pairs.{all_places};
 ghost use Rattle.lift_blocks.specs.Kept.{site_of, operation_of};
 ghost use Rattle.lift_blocks.specs.Known.{AreAll, IsKnown};
-ghost use Rattle.lift_blocks.specs.Listed.{targeted_places, successor_places, entry_places, can_go_on as may_go_on, ends_block as does_end, target_of as the_target, is_emitted, is_end as is_the_end, IsLifted, successor_of};
+ghost use Rattle.lift_blocks.specs.Listed.{targeted_places, successor_places, entry_places, can_go_on as may_go_on, ends_block as does_end, target_of as the_target, is_emitted, is_end as is_the_end, IsLifted, successor_of, place as place_in};
 ghost use Rattle.lift_blocks.specs.Listing.{AreOperations, HaveTargetsIn, at_places, begins_from};
 ghost use Rattle.lift_blocks.specs.Marks.{with_marks};
 ghost use Rattle.lift_blocks.specs.Rank.{Ascends};
 ghost use Rattle.lift_blocks.specs.Operations.{operation_at};
 
 use crate::lifted::Lifted;
-use crate::marks::{chosen, mark, mark_any, mark_number, marked, no_marks};
+use crate::marks::{chosen, mark, mark_number, marked, no_marks};
 use crate::numbering::Numbers;
 use crate::reader::Reader;
 use crate::renumbering::listed_operations;
@@ -242,42 +242,22 @@ fn mark_successor(places: &[Site], marks: &mut [bool], ops: &[SourceOp])
     ensures { marks.new ≡ with_marks (all_places given) marks.old (successor_places given) }
 {
     for at in 0..places.len() {
-        mark_any(places, marks, successor(places[at], ops[at]), at + 1);
+        mark_next(places, marks, ops[at], at);
     }
 }
 
-/// The place after an operation, where the machine can go on to it.
-fn successor(place: Site, op: SourceOp) -> Option<Site>
+/// Marks the place after the operation at an index, where the machine can go on to it: in code order it is the next.
+#[inline(always)]
+fn mark_next(_places: &[Site], marks: &mut [bool], op: SourceOp, at: usize)
     ghost given: { Given }
-    requires known { IsKnown given (site_of place) }
-    requires op { option_map may_go_on (operation_at given (site_of place)) ≡ Some (may_go_on (operation_of op)) }
-    ensures { option_map site_of result ≡ successor_of given (site_of place) }
+    requires places { AreAll given (map site_of _places.now) }
+    requires count { length marks.old ≡ length _places.now }
+    requires within { at < length (all_places given) }
+    requires op { option_map may_go_on (operation_at given (place_in (all_places given) at)) ≡ Some (may_go_on (operation_of op)) }
+    ensures { marks.new ≡ with_marks (all_places given) marks.old (cons_option (successor_of given (place_in (all_places given) at)) []) }
 {
     if can_go_on(op) {
-        Some(place_after(place))
-    } else {
-        None
-    }
-}
-
-/// The place after an operation that is no pair.
-fn place_after(place: Site) -> Site
-    ghost given: { Given }
-    requires known { IsKnown given (site_of place) }
-    requires alone { is_pair given (site_of place) ≡ false }
-    ensures { site_of result ≡ the_next_place given (site_of place) }
-{
-    match place {
-        Site::Code {
-            object,
-            section,
-            offset,
-        } => Site::Code {
-            object,
-            section,
-            offset: offset + 4,
-        },
-        Site::Stub { number, at } => Site::Stub { number, at: at + 1 },
+        marks[at + 1] = true;
     }
 }
 

@@ -98,7 +98,9 @@ pub(crate) fn marked<T: Copy + Drop>(items: Vec<T>, marks: &[bool]) -> Vec<T>
     let mut to = 0;
     for at in 0..marks.len() {
         if marks[at] {
-            items[to] = items[at];
+            if to < at {
+                items[to] = items[at];
+            }
             to += 1;
         }
     }

@@ -11,11 +11,13 @@ ghost use Rattle.relocs.specs.AddressMap.{needed_places};
 ghost use Rattle.rv_decode.specs.Operations.{IsReg, IsOp};
 ghost use Rattle.lift_blocks.specs.Fits.{PlainFits, IsLink, FitsInstructions};
 ghost use Rattle.lift_blocks.specs.Kept.{site_of};
-ghost use Rattle.lift_blocks.specs.Operations.{Pair, operand_at, code_op, operation_at, value_or, upper_or, if_link, target_place, target_or, target_from, placed_op, pair_op, import_op, stub_op, stub_operation as the_stub_operation};
+ghost use Rattle.lift_blocks.specs.Operations.{Pair, Plain, operand_at, code_op, operation_at, value_or, upper_or, if_link, target_place, target_or, target_from, placed_op, pair_op, import_op, stub_op, stub_operation as the_stub_operation};
 ghost use Rattle.lift_blocks.specs.Listed.{target_of};
 ghost use Rattle.lift_blocks.specs.PlacedOps.{HasBits, HasUpper, HasTarget, IsTarget, CanTake, with_operand, is_plain, can_be_target, placed_operation_of, IsFaultless, IsMachineOf};
 
+use crate::first_fault::is_alone;
 use crate::placed_op::PlacedOp;
+use crate::reader::is_none;
 use crate::site::Site;
 use relocs::{CodeMap, Operand, Sources, holds_auipc};
 use rv_decode::{Reg, RvOp};
@@ -47,6 +49,43 @@ impl SourceMachine<'_, '_, '_> {
                 offset,
             } => self.code_operation(object, section, offset),
             Site::Stub { number, at } => self.stub_operation(number, at),
+        }
+    }
+
+    /// The operation at a place, where it is a word that needs nothing else and has no relocation, as most are.
+    #[inline(always)]
+    pub(crate) fn plain(&self, place: Site) -> Option<RvOp>
+        ghost given: { Given }
+        requires machine { IsMachineOf given self.now }
+        requires place { is_place given (site_of place) ≡ true }
+        ensures value { IfSome result (λ op. operation_at given (site_of place) ≡ Some (Plain op)) }
+        ensures fits { IfSome result PlainFits }
+    {
+        match place {
+            Site::Code {
+                object,
+                section,
+                offset,
+            } => self.plain_word(object, section, offset),
+            Site::Stub { .. } => None,
+        }
+    }
+
+    /// The same of an offset of code.
+    #[tactic(auto, using(crate::proofs::PlainOps::plain_words))]
+    #[inline(always)]
+    fn plain_word(&self, object: u32, section: u32, offset: u64) -> Option<RvOp>
+        ghost given: { Given }
+        requires machine { IsMachineOf given self.now }
+        requires section { IsCodeSection given object section }
+        ensures value { IfSome result (λ op. operation_at given (Code object section offset) ≡ Some (Plain op)) }
+        ensures fits { IfSome result PlainFits }
+    {
+        let op = self.sources.op_at(object, section, offset);
+        if is_alone(op) && is_none(self.sources.relocations(object, section, offset)) {
+            op
+        } else {
+            None
         }
     }
 

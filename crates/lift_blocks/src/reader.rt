@@ -85,6 +85,7 @@ impl Reader<'_, '_> {
     }
 
     /// Whether a CALL is allowed at the offset of an `auipc`.
+    #[inline(always)]
     fn is_joined(&self, first: Option<RvOp>, object: u32, section: u32, offset: u64) -> bool
         ghost given: { Given }
         requires tables { AreTables given self.now.objects.now self.now.tables.now }
@@ -161,6 +162,7 @@ impl Reader<'_, '_> {
     }
 
     /// The same of an offset. Only `jal`, `jalr` and pairs, which begin with `auipc`, keep a place.
+    #[inline(always)]
     fn link_at(&self, place: Site, object: u32, section: u32, offset: u64) -> Option<Site>
         ghost given: { Given }
         requires tables { AreTables given self.now.objects.now self.now.tables.now }
@@ -317,7 +319,8 @@ fn link_by(next: Site, register: Reg) -> Option<Site>
     }
 }
 
-fn is_none(relocations: &[Relocation]) -> bool
+#[inline(always)]
+pub(crate) fn is_none(relocations: &[Relocation]) -> bool
     ensures { result ≡ is_none_of relocations.now }
 {
     relocations.is_empty()

@@ -6,7 +6,7 @@ ghost use Rattle.relocs.specs.Places.{CodePlace};
 ghost use Rattle.lift_blocks.specs.Fits.{FitsInstructions};
 ghost use Rattle.lift_blocks.specs.Kept.{operation_of};
 ghost use Rattle.lift_blocks.specs.Listed.{place as place_in};
-ghost use Rattle.lift_blocks.specs.Listing.{IsNumberOf, IsNumbered, AreNumbered, HasTargetIn, HaveTargetsIn, at_places};
+ghost use Rattle.lift_blocks.specs.Listing.{IsNumberOf, IsNumbered, AreNumbered, HasTargetIn, HaveTargetsIn, at_places, has_target as has_the_target};
 ghost use Rattle.lift_blocks.specs.Marks.{chosen as the_chosen, counts_from};
 ghost use Rattle.lift_blocks.specs.Operations.{rename};
 
@@ -76,7 +76,10 @@ impl Renumbering<'_> {
         let mut to = 0;
         for at in 0..self.listed.len() {
             if self.listed[at] {
-                ops[to] = self.operation(ops[at])?;
+                let op = ops[at];
+                if to < at || has_target(op) {
+                    ops[to] = self.operation(op)?;
+                }
                 to += 1;
             }
         }
@@ -142,4 +145,15 @@ impl Renumbering<'_> {
             Err(AllocError)
         }
     }
+}
+
+/// Whether an operation names a target.
+#[inline(always)]
+fn has_target(op: SourceOp) -> bool
+    ensures { result ≡ has_the_target (operation_of op) }
+{
+    matches!(
+        op,
+        SourceOp::Branch { .. } | SourceOp::Jal { .. } | SourceOp::Pair { .. }
+    )
 }

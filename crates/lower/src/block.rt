@@ -3,16 +3,17 @@
 ghost use Rattle.std.specs.Prelude.{◌≡◌, ◌∷◌, ◌<◌, ◌≤◌, ◌^◌, length, slice_range, IfSome, IfOk, OnOk};
 ghost use Rattle.std.specs.Option.{option_map};
 ghost use Rattle.runs.specs.Blocks.{block_of};
+ghost use Rattle.lift_blocks.specs.Fits.{FitsInstructions};
 ghost use Rattle.lift_blocks.specs.Kept.{operation_of};
 ghost use Rattle.lift_blocks.specs.Listed.{ends_block, target_of};
 ghost use Rattle.lower.specs.Building.{AreBlockNumbers, targeted_at, extended, one_if, with_block};
 ghost use Rattle.lower.specs.Constants.{runs};
-ghost use Rattle.lower.specs.Lowering.{offset_target, lower_block, part_instrs, run_instrs, tail_if};
+ghost use Rattle.lower.specs.Lowering.{offset_target, lower_block, lower_op, part_instrs, run_instrs, tail_if};
 ghost use Rattle.lower.specs.Plain.{listed};
 
 use crate::constants::{begins_run, constant, run_on};
 use crate::forms::Three;
-use crate::transfers::{ends_block, fallthrough, instructions, target};
+use crate::transfers::{ends_block, fallthrough, instructions, single, target};
 use lift_blocks::{Lifted, SourceOp};
 use pvm_ops::{Blocks, Instr};
 use std::alloc::AllocError;
@@ -76,9 +77,21 @@ fn add_next(blocks: &mut Blocks, lifted: &Lifted, from: u32, to: u32) -> Result<
             Ok(run.end)
         },
         None => {
-            push_all(blocks, &instructions(lifted, &op))?;
+            add_operation(blocks, lifted, &op)?;
             Ok(from + 1)
         },
+    }
+}
+
+/// Adds the instructions of an operation to the last block.
+fn add_operation(blocks: &mut Blocks, lifted: &Lifted, op: &SourceOp) -> Result<(), AllocError>
+    requires some { 0 < length blocks.old.blocks }
+    requires fits { FitsInstructions (operation_of op.now) }
+    ensures { OnOk result (blocks.new ≡ extended (lower_op lifted.now.needed (operation_of op.now)) blocks.old) }
+{
+    match single(op) {
+        Some(instr) => blocks.push(instr),
+        None => push_all(blocks, &instructions(lifted, op)),
     }
 }
 
@@ -111,7 +124,7 @@ fn aim(blocks: &mut Blocks, lifted: &Lifted, numbers: &[u32], target: Option<u32
     }
 }
 
-/// Adds the instructions of an operation to the last block.
+/// Adds instructions to the last block.
 fn push_all(blocks: &mut Blocks, three: &Three) -> Result<(), AllocError>
     requires { 0 < length blocks.old.blocks }
     ensures { OnOk result (blocks.new ≡ extended (listed three.now) blocks.old) }

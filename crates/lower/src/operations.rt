@@ -1,12 +1,12 @@
 //! The instructions of an operation that is no jump and no branch.
 
-ghost use Rattle.std.specs.Prelude.{◌≡◌};
+ghost use Rattle.std.specs.Prelude.{◌≡◌, [], ◌∷◌, IfSome};
 ghost use Rattle.std.specs.List.{AllByRecursion};
 ghost use Rattle.numbers.specs.Words.{word_of};
 ghost use Rattle.jump_table.specs.Laws.{IsPlainInstr};
-ghost use Rattle.lower.specs.Instructions.{add_imm_32, load_imm, move_reg, neg_add_imm_64, set_lt_u_imm};
+ghost use Rattle.lower.specs.Instructions.{add_imm_32, load_imm, move_reg, neg_add_imm_64, rrr, rrx, set_lt_u_imm};
 ghost use Rattle.lower.specs.Laws.{HasEffect};
-ghost use Rattle.lower.specs.Plain.{IsLowerable, listed, lower_plain, three_of, with_first_zero, with_second_zero};
+ghost use Rattle.lower.specs.Plain.{IsLowerable, alu_imm_opcode, alu_opcode, listed, load_ind_opcode, lower_plain, store_ind_opcode, three_of, with_first_zero, with_second_zero};
 
 use crate::forms::{Three, all_three, none, one, rr, rrr, rrx, rx, rxy, trap, two, xy};
 use crate::tables::{
@@ -47,6 +47,39 @@ pub fn lower_operation(op: &RvOp) -> Three
     ensures effect { HasEffect op.now (listed result) }
 {
     instructions(op)
+}
+
+/// The instruction of an operation on registers other than x0, as most operations are.
+pub(crate) fn of_registers(op: RvOp) -> Option<Instr>
+    ensures { IfSome result (λ instr. lower_plain op ≡ instr ∷ []) }
+{
+    match op {
+        RvOp::Load {
+            width,
+            rd: Reg::R(d),
+            rs1: Reg::R(a),
+            imm,
+        } => Some(load_by(width, d, a, imm)),
+        RvOp::Store {
+            width,
+            rs1: Reg::R(a),
+            rs2: Reg::R(b),
+            imm,
+        } => Some(store_by(width, a, b, imm)),
+        RvOp::OpImm {
+            op,
+            rd: Reg::R(d),
+            rs1: Reg::R(a),
+            imm,
+        } => Some(immediate_by(op, d, a, imm)),
+        RvOp::Op {
+            op,
+            rd: Reg::R(d),
+            rs1: Reg::R(a),
+            rs2: Reg::R(b),
+        } => Some(registers_by(op, d, a, b)),
+        _ => None,
+    }
 }
 
 /// The row of an operation.
@@ -94,7 +127,7 @@ fn load(width: LoadWidth, rd: Reg, rs1: Reg, imm: i32) -> Three
     match (rd, rs1) {
         (Reg::Zero, _) => none(),
         (Reg::R(d), Reg::Zero) => one(rx(load_opcode(width), d, x)),
-        (Reg::R(d), Reg::R(a)) => one(rrx(load_ind_opcode(width), d, a, x)),
+        (Reg::R(d), Reg::R(a)) => one(load_by(width, d, a, imm)),
     }
 }
 
@@ -107,7 +140,7 @@ fn store(width: StoreWidth, rs1: Reg, rs2: Reg, imm: i32) -> Three
         (Reg::Zero, Reg::Zero) => one(xy(store_imm_opcode(width), x, 0)),
         (Reg::Zero, Reg::R(b)) => one(rx(store_opcode(width), b, x)),
         (Reg::R(a), Reg::Zero) => one(rxy(store_imm_ind_opcode(width), a, x, 0)),
-        (Reg::R(a), Reg::R(b)) => one(rrx(store_ind_opcode(width), b, a, x)),
+        (Reg::R(a), Reg::R(b)) => one(store_by(width, a, b, imm)),
     }
 }
 
@@ -119,7 +152,7 @@ fn with_immediate(op: AluImm, rd: Reg, rs1: Reg, imm: i32) -> Three
     match (rd, rs1) {
         (Reg::Zero, _) => none(),
         (Reg::R(d), Reg::Zero) => one(load_imm(d, alu_imm_binary(op).apply(0, x))),
-        (Reg::R(d), Reg::R(a)) => one(rrx(alu_imm_opcode(op), d, a, x)),
+        (Reg::R(d), Reg::R(a)) => one(immediate_by(op, d, a, imm)),
     }
 }
 
@@ -132,8 +165,36 @@ fn with_registers(op: Alu, rd: Reg, rs1: Reg, rs2: Reg) -> Three
         (Reg::R(d), Reg::Zero, Reg::Zero) => one(load_imm(d, alu_binary(op).apply(0, 0))),
         (Reg::R(d), Reg::Zero, Reg::R(b)) => with_first_zero(op, d, b),
         (Reg::R(d), Reg::R(a), Reg::Zero) => with_second_zero(op, d, a),
-        (Reg::R(d), Reg::R(a), Reg::R(b)) => one(rrr(alu_opcode(op), d, a, b)),
+        (Reg::R(d), Reg::R(a), Reg::R(b)) => one(registers_by(op, d, a, b)),
     }
+}
+
+/// A load at a register.
+fn load_by(width: LoadWidth, d: u8, a: u8, imm: i32) -> Instr
+    ensures { result ≡ rrx (load_ind_opcode width) d a (word_of imm) }
+{
+    rrx(load_ind_opcode(width), d, a, word(imm))
+}
+
+/// A store at a register.
+fn store_by(width: StoreWidth, a: u8, b: u8, imm: i32) -> Instr
+    ensures { result ≡ rrx (store_ind_opcode width) b a (word_of imm) }
+{
+    rrx(store_ind_opcode(width), b, a, word(imm))
+}
+
+/// An operation on a register other than x0 and an immediate.
+fn immediate_by(op: AluImm, d: u8, a: u8, imm: i32) -> Instr
+    ensures { result ≡ rrx (alu_imm_opcode op) d a (word_of imm) }
+{
+    rrx(alu_imm_opcode(op), d, a, word(imm))
+}
+
+/// An operation on two registers other than x0.
+fn registers_by(op: Alu, d: u8, a: u8, b: u8) -> Instr
+    ensures { result ≡ rrr (alu_opcode op) d a b }
+{
+    rrr(alu_opcode(op), d, a, b)
 }
 
 /// An operation on a register and x0.

@@ -1,6 +1,6 @@
 //! The instructions of branches and jumps, and where they lead.
 
-ghost use Rattle.std.specs.Prelude.{◌≡◌, ◌%◌, ◌^◌, ◌<◌, [], ◌∷◌, length, IfSome};
+ghost use Rattle.std.specs.Prelude.{◌≡◌, ℕ, ◌%◌, ◌^◌, ◌<◌, List, [], ◌∷◌, length, IfSome};
 ghost use Rattle.numbers.specs.Words.{word_of};
 ghost use Rattle.arithmetic.specs.Operations.{holds};
 ghost use Rattle.runs.specs.Numbers.{named};
@@ -13,7 +13,7 @@ ghost use Rattle.lower.specs.Lowering.{offset_target, branch as is_branch, jump_
 ghost use Rattle.lower.specs.Plain.{listed};
 
 use crate::forms::{Three, one, rr, rrx, rx, trap, two};
-use crate::operations::{load_imm, lower_operation, word};
+use crate::operations::{load_imm, lower_operation, of_registers, word};
 use crate::tables::{branch_opcode, branch_zero_opcode, zero_branch_opcode};
 use lift_blocks::{Lifted, SourceOp};
 use pvm_ops::Instr;
@@ -49,6 +49,16 @@ pub(crate) fn instructions(lifted: &Lifted, op: &SourceOp) -> Three
         SourceOp::Pair { temp, rd, link, .. } => pair(temp, rd, link),
         SourceOp::Host(number) => one(ecalli(number)),
         SourceOp::Sbrk => one(rr(SBRK, SIZE, SIZE)),
+    }
+}
+
+/// The instruction of an operation on registers other than x0 that is no jump and no branch.
+pub(crate) fn single(op: &SourceOp) -> Option<Instr>
+    ensures { (needed : List ℕ) → IfSome result (λ instr. lower_op needed (operation_of op.now) ≡ instr ∷ []) }
+{
+    match *op {
+        SourceOp::Plain(plain) => of_registers(plain),
+        _ => None,
     }
 }
 

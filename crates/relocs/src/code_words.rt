@@ -25,6 +25,7 @@ pub(crate) fn code_words(
 
 /// What the word at an offset of bytes of code is: an operation, or faulty. A trap is after the last byte.
 #[tactic(auto, unfolding(crate::specs::Words::word_or_trap))]
+#[inline(always)]
 pub(crate) fn word_or_trap(bytes: &[u8], at: usize) -> Result<RvOp, WordFault>
     requires { at ≤ length bytes.now }
     ensures { result ≡ the_word_or_trap bytes.now at }

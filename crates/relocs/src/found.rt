@@ -38,6 +38,7 @@ impl Found {
 
     /// The summary of one relocation, or of none.
     #[tactic(auto, using(crate::proofs::Parting::few))]
+    #[inline(always)]
     pub(crate) fn of_few(row: &[Relocation]) -> Found
         requires { length row.now < 2 }
         ensures { result ≡ found_of row.now }

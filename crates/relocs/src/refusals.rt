@@ -73,6 +73,7 @@ impl Sources<'_, '_, '_> {
     }
 
     /// Whether several relocations are at an offset, of whose codes that of several is the least.
+    #[inline(always)]
     fn is_crowded(&self, object: u32, section: u32, offset: u64) -> bool
         ghost given: { Given }
         requires sources { IsSourcesOf given self.now }

@@ -76,6 +76,7 @@ impl Sources<'_, '_, '_> {
     }
 
     /// A summary of the relocations at an offset of a code section.
+    #[inline(always)]
     pub(crate) fn found_at(&self, object: u32, section: u32, offset: u64) -> Found
         ghost given: { Given }
         requires sources { IsSourcesOf given self.now }
@@ -110,6 +111,7 @@ impl Sources<'_, '_, '_> {
     }
 
     /// Whether a CALL may be at an offset.
+    #[inline(always)]
     pub(crate) fn can_call(&self, object: u32, section: u32, offset: u64) -> bool
         ghost given: { Given }
         requires sources { IsSourcesOf given self.now }
@@ -121,6 +123,7 @@ impl Sources<'_, '_, '_> {
     }
 
     /// Whether a CALL may be at an offset where an `auipc` is.
+    #[inline(always)]
     fn is_joined(&self, first: Option<RvOp>, object: u32, section: u32, offset: u64) -> bool
         ghost given: { Given }
         requires sources { IsSourcesOf given self.now }
@@ -137,6 +140,7 @@ impl Sources<'_, '_, '_> {
     }
 
     /// The number of bytes of a code section.
+    #[inline(always)]
     fn code_size(&self, object: u32, section: u32) -> usize
         ghost given: { Given }
         requires sources { IsSourcesOf given self.now }

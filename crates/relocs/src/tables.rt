@@ -101,6 +101,7 @@ impl Row {
         }
     }
 
+    #[inline(always)]
     fn found(&self, offset: u64) -> Found
         requires { HasParts self.now }
         ensures { result ≡ found_of (filter (is_at offset) self.now.relocations) }
@@ -237,6 +238,7 @@ impl Tables {
     }
 
     /// A summary of them.
+    #[inline(always)]
     pub(crate) fn found(
         &self,
         objects: &Objects<'_>,

@@ -5,3 +5,6 @@ ghost-is_plain g a = g.given
 
 abbrev pub ghost-least_code : goal.ghost-least_code
 ghost-least_code g a = g.given
+
+abbrev pub ghost-is_direct : goal.ghost-is_direct
+ghost-is_direct g a = g.given

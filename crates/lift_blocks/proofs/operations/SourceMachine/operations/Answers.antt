@@ -10,13 +10,14 @@ use Rattle.lift_blocks.proofs.Finding.{mapped_at}
 use Rattle.lift_blocks.proofs.ListedOps.{operations_next}
 use Rattle.lift_blocks.proofs.operations.SourceMachine.operations.Goals as goal
 
-pub operation-placed-requires : goal.operation-placed-requires
-operation-placed-requires g c =
-    (c.requires.0, has_in (map site_of c.args.places.now) (all_places g.given) c.loop-at.at _ c.requires.1.0 (mapped_at c.args.places.now c.loop-at.at (Code 0 0 0) (omega arith)))
+pub numbered-requires : goal.numbered-requires
+numbered-requires g c =
+    let there = has_in (map site_of c.args.places.now) (all_places g.given) c.loop-at.at _ c.requires.1.0 (mapped_at c.args.places.now c.loop-at.at (Code 0 0 0) (omega arith)) in
+    (c.requires.0, (there, c.requires.1.1))
 
 pub loop-at-preserved : goal.loop-at-preserved
 loop-at-preserved g c =
-    operations_next g.given (map site_of c.args.places.now) (map site_of (take c.loop-at.at c.args.places.now)) _ c.loop-at.ops.items c.push.new.self.items _ _ _ c.loop-at.invariant c.operation-placed.ensures.value c.in_ok-operation.ensures
+    operations_next g.given (map site_of c.args.places.now) (map site_of (take c.loop-at.at c.args.places.now)) _ c.loop-at.ops.items c.push.new.self.items _ _ _ c.loop-at.invariant c.in_ok-numbered.ensures.value c.in_ok-numbered.ensures.numbered
     c.in_ok-push.ensures.items (map_more site_of c.args.places.now c.loop-at.at (Code 0 0 0) (omega arith))
 
 pub returns : goal.returns
