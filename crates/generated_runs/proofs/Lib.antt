@@ -1,0 +1,6 @@
+mod Texts
+mod Forms
+mod CodeWords
+mod Unlisted
+mod Offsets
+mod Lifted

@@ -1,0 +1,4 @@
+pub mod Operations
+pub mod Inputs
+pub mod Lifted
+pub mod Laws

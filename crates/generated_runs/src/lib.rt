@@ -1,0 +1,38 @@
+//! What the link makes of a generated object, and how its program runs.
+//!
+//! Each function below does nothing: its contract is a law. `specs/Operations.antt` says which operations a generated
+//! text has, and `specs/Inputs.antt` what the link of a generated object is given.
+#![tactic(auto)]
+
+ghost use Rattle.generated_runs.specs.Laws.{TextsAreOperations, GeneratedIsGiven, NothingIsListed, GeneratedIsLifted};
+
+use generated::{objects_are_spelled, words_are_operations};
+
+/// The decoder reads each word of a generated text as the operation meant.
+pub fn texts_are_operations()
+    ensures { TextsAreOperations }
+{
+    words_are_operations();
+}
+
+/// The link of a generated object is given the object meant.
+pub fn generated_is_given()
+    ensures { GeneratedIsGiven }
+{
+    objects_are_spelled();
+}
+
+/// No fault of a generated object is listed.
+pub fn nothing_is_listed()
+    ensures { NothingIsListed }
+{
+    objects_are_spelled();
+    texts_are_operations();
+}
+
+/// The operations of a generated object in code order are those of its text.
+pub fn generated_is_lifted()
+    ensures { GeneratedIsLifted }
+{
+    texts_are_operations();
+}
