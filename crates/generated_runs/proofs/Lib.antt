@@ -4,3 +4,5 @@ mod CodeWords
 mod Unlisted
 mod Offsets
 mod Lifted
+mod Program
+mod Size

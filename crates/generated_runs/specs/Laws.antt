@@ -1,14 +1,17 @@
 -- The laws of generated objects and their programs.
-use Rattle.std.specs.Prelude.{◌≡◌, ℕ, ◌*◌, ◌≤◌, [], Ok, Some, slice_get}
+use Rattle.std.specs.Prelude.{◌≡◌, ℕ, ◌+◌, ◌*◌, ◌≤◌, [], length, Ok, Some, slice_get}
 use Rattle.rv_decode.specs.declared.ops.RvOp.{RvOp}
 use Rattle.rv_decode.specs.Operations.{operation}
 use Rattle.relocs.specs.Words.{word_at}
+use Rattle.lift_blocks.specs.Operations.{Operation}
 use Rattle.lift_blocks.specs.Listed.{IsLifted}
-use Rattle.link_core.specs.Faults.{input_of, listed_faults}
+use Rattle.lower.specs.Lowering.{lowered_blocks}
+use Rattle.link_core.specs.Faults.{input_of, listed_faults, HasNoFault}
 use Rattle.generated.specs.Objects.{text}
 use Rattle.generated_runs.specs.Inputs.{files_of, wanted_with, given_of}
 use Rattle.generated_runs.specs.Lifted.{lifted}
 use Rattle.generated_runs.specs.Operations.{operations}
+use Rattle.generated_runs.specs.Program.{IsOneInstruction, instructions, program}
 
 -- each word of a generated text is decoded to the operation meant
 abbrev pub TextsAreOperations : Type 0
@@ -25,3 +28,17 @@ NothingIsListed = (seed count stack : ℕ) → count ≤ 1000000 → listed_faul
 -- the operations of a generated object in code order are those of its text
 abbrev pub GeneratedIsLifted : Type 0
 GeneratedIsLifted = (seed count stack : ℕ) → count ≤ 1000000 → IsLifted (given_of seed count stack) (lifted seed count)
+
+-- each operation of a generated text is one instruction
+abbrev pub WordsAreInstructions : Type 0
+WordsAreInstructions = (seed count at : ℕ) (op : Operation ℕ) → slice_get (lifted seed count).ops at ≡ Some op → IsOneInstruction op
+
+-- The operations are lowered to one block, with an instruction for each.
+pub record GeneratedIsLowered : Type 0 where
+  pub program_is : (seed count : ℕ) → lowered_blocks (lifted seed count) ≡ program seed count
+  pub size : (seed count : ℕ) → length (instructions seed count) ≡ count + 1
+
+-- A generated object of at most 1,000,000 words is linked, unless an allocation fails: it has no fault, and its program isn't
+-- too large.
+abbrev pub GeneratedHasNoFault : Type 0
+GeneratedHasNoFault = (seed count stack : ℕ) → count ≤ 1000000 → HasNoFault (files_of seed count) (wanted_with stack)

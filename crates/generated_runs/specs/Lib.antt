@@ -1,4 +1,5 @@
 pub mod Operations
 pub mod Inputs
 pub mod Lifted
+pub mod Program
 pub mod Laws

@@ -4,9 +4,10 @@
 //! text has, and `specs/Inputs.antt` what the link of a generated object is given.
 #![tactic(auto)]
 
-ghost use Rattle.generated_runs.specs.Laws.{TextsAreOperations, GeneratedIsGiven, NothingIsListed, GeneratedIsLifted};
+ghost use Rattle.generated_runs.specs.Laws.{TextsAreOperations, GeneratedIsGiven, NothingIsListed, GeneratedIsLifted, WordsAreInstructions, GeneratedIsLowered, GeneratedHasNoFault};
 
 use generated::{objects_are_spelled, words_are_operations};
+use lift_blocks::lifted_is_one;
 
 /// The decoder reads each word of a generated text as the operation meant.
 pub fn texts_are_operations()
@@ -35,4 +36,25 @@ pub fn generated_is_lifted()
     ensures { GeneratedIsLifted }
 {
     texts_are_operations();
+}
+
+/// Each operation of a generated text is one instruction, and none is a constant that others could join.
+pub fn words_are_instructions()
+    ensures { WordsAreInstructions }
+{}
+
+/// The program of a generated object is one block, with an instruction for each word.
+pub fn generated_is_lowered()
+    ensures { GeneratedIsLowered }
+{}
+
+/// A generated object is linked, unless an allocation fails.
+pub fn generated_has_no_fault()
+    ensures { GeneratedHasNoFault }
+{
+    generated_is_given();
+    nothing_is_listed();
+    generated_is_lifted();
+    generated_is_lowered();
+    lifted_is_one();
 }
