@@ -6,3 +6,5 @@ mod Offsets
 mod Lifted
 mod Program
 mod Size
+mod Straight
+mod Halting

@@ -1,6 +1,6 @@
 -- The operations of a generated object are lowered to one block, with an instruction for each.
-use Rattle.std.proofs.Common.{◌≡◌, ℕ, zero, suc, List, [], ◌∷◌, ◌++◌, length, map, Bool, true, false, Option, None, refl, ap, ◌∙◌, subst, arith}
-use Rattle.std.specs.Prelude.{replicate}
+use Rattle.std.proofs.Common.{◌≡◌, ◌<◌, ℕ, zero, suc, List, [], ◌∷◌, ◌++◌, length, map, Bool, true, false, Option, Some, None, refl, ap, ◌∙◌, subst, arith}
+use Rattle.std.specs.Prelude.{pos, replicate, slice_get}
 use Rattle.std.specs.List.{AllByRecursion}
 use Rattle.std.specs.Option.{option_map}
 use Rattle.std.proofs.lemmas.List.{append-nil, length-append, length-map}
@@ -13,14 +13,13 @@ use Rattle.pvm_ops.specs.BlockList.{Block}
 use Rattle.lower.specs.Constants.{begins_run, runs}
 use Rattle.lower.specs.Lowering.{lower_op, tail_of, offset_target, last_offset_target, run_instrs, part_instrs, block_instrs, lower_block, lowered_blocks}
 use Rattle.lower.proofs.Lists.{all_from_places, all_at, from_map}
-use Rattle.std.specs.Prelude.{pos}
 use Rattle.generated.specs.Words.{next}
 use Rattle.generated_runs.specs.Operations.{operations}
 use Rattle.generated_runs.specs.Lifted.{lifted_of, lifted}
 use Rattle.generated_runs.specs.Program.{IsOneInstruction, instructions, program}
 use Rattle.generated_runs.specs.Laws.{WordsAreInstructions, GeneratedIsLowered}
 use Rattle.generated_runs.proofs.CodeWords.{operations-length}
-use Rattle.generated_runs.proofs.Forms.{HoldsOfForms, each-operation}
+use Rattle.generated_runs.proofs.Forms.{HoldsOfForms, each-operation, each-random}
 
 -- what holds of the forms and of the return holds of each operation of the list
 pub all-listed : (P : Operation ℕ → Type 0) → HoldsOfForms (λ op. P (lifted_of op)) → P (Jalr Zero (R 0) (pos 0) 0) → (seed count : ℕ) → AllByRecursion P (lifted seed count).ops
@@ -28,6 +27,15 @@ all-listed P forms return seed count =
     all_from_places P (lifted seed count).ops (λ at op is.
     (let from = from_map lifted_of (operations seed count) at op is in
     subst P from.is (each-operation (λ op. P (lifted_of op)) forms return seed count at from.x from.there)))
+
+-- and what holds of the forms alone holds of each but the last
+pub all-but_last : (P : Operation ℕ → Type 0) → HoldsOfForms (λ op. P (lifted_of op)) → (seed count at : ℕ) (op : Operation ℕ) → at < count → slice_get (lifted seed count).ops at ≡ Some op → P op
+all-but_last P forms seed count at op lt is =
+    let from = from_map lifted_of (operations seed count) at op is in
+    subst P from.is (each-random (λ op. P (lifted_of op)) forms seed count at from.x lt from.there)
+
+pub operations-count : (seed count : ℕ) → length (lifted seed count).ops ≡ suc count
+operations-count seed count = length-map (operations seed count) lifted_of ∙ operations-length seed count
 
 -- ---- instructions
 
@@ -65,7 +73,7 @@ one-block (suc n) b x [] len = absurd (omega (arith, len))
 one-block (suc n) b x (y ∷ xs) len = ap (in_first x) (one-block n false y xs (omega (arith, len)))
 
 blocks-are : (seed count : ℕ) → blocks (lifted seed count).begins (lifted seed count).ops ≡ (lifted seed count).ops ∷ []
-blocks-are seed count = by_list (lifted seed count).ops (length-map (operations seed count) lifted_of ∙ operations-length seed count)
+blocks-are seed count = by_list (lifted seed count).ops (operations-count seed count)
   where
     by_list : (ops : List (Operation ℕ)) → length ops ≡ suc count → blocks (true ∷ replicate count false) ops ≡ ops ∷ []
     by_list [] len = absurd (omega (arith, len))
@@ -109,5 +117,5 @@ program-is seed count =
 pub generated-is_lowered : GeneratedIsLowered
 generated-is_lowered = record {
   program_is = program-is;
-  size = λ seed count. lowered-length [] (lifted seed count).ops (one-instruction seed count) ∙ length-map (operations seed count) lifted_of ∙ operations-length seed count ∙ omega arith;
+  size = λ seed count. lowered-length [] (lifted seed count).ops (one-instruction seed count) ∙ operations-count seed count ∙ omega arith;
 }

@@ -3,15 +3,20 @@ use Rattle.std.specs.Prelude.{◌≡◌, ℕ, ◌+◌, ◌*◌, ◌≤◌, [], l
 use Rattle.rv_decode.specs.declared.ops.RvOp.{RvOp}
 use Rattle.rv_decode.specs.Operations.{operation}
 use Rattle.relocs.specs.Words.{word_at}
+use Rattle.machine_state.specs.Ends.{no_host}
+use Rattle.blob_codec.specs.Grammar.{Container}
 use Rattle.lift_blocks.specs.Operations.{Operation}
 use Rattle.lift_blocks.specs.Listed.{IsLifted}
 use Rattle.lower.specs.Lowering.{lowered_blocks}
 use Rattle.link_core.specs.Faults.{input_of, listed_faults, HasNoFault}
+use Rattle.link_core.specs.Linked.{IsLinked}
+use Rattle.link_core.specs.Runs.{machine_run}
 use Rattle.generated.specs.Objects.{text}
 use Rattle.generated_runs.specs.Inputs.{files_of, wanted_with, given_of}
 use Rattle.generated_runs.specs.Lifted.{lifted}
 use Rattle.generated_runs.specs.Operations.{operations}
 use Rattle.generated_runs.specs.Program.{IsOneInstruction, instructions, program}
+use Rattle.generated_runs.specs.Runs.{SpendsAll}
 
 -- each word of a generated text is decoded to the operation meant
 abbrev pub TextsAreOperations : Type 0
@@ -42,3 +47,10 @@ pub record GeneratedIsLowered : Type 0 where
 -- too large.
 abbrev pub GeneratedHasNoFault : Type 0
 GeneratedHasNoFault = (seed count stack : ℕ) → count ≤ 1000000 → HasNoFault (files_of seed count) (wanted_with stack)
+
+-- The program of a generated object of at most 1,000,000 words halts, with one gas spent for each word, one for the entry's
+-- jump and one for the return.
+abbrev pub GeneratedHalts : Type 0
+GeneratedHalts =
+    (seed count stack : ℕ) (c : Container) → count ≤ 1000000 → IsLinked (given_of seed count stack) c
+    → SpendsAll (count + 2) (machine_run no_host tt c 0 [] (count + 2))

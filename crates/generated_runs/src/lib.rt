@@ -4,10 +4,14 @@
 //! text has, and `specs/Inputs.antt` what the link of a generated object is given.
 #![tactic(auto)]
 
-ghost use Rattle.generated_runs.specs.Laws.{TextsAreOperations, GeneratedIsGiven, NothingIsListed, GeneratedIsLifted, WordsAreInstructions, GeneratedIsLowered, GeneratedHasNoFault};
+ghost use Rattle.generated_runs.specs.Laws.{TextsAreOperations, GeneratedIsGiven, NothingIsListed, GeneratedIsLifted, WordsAreInstructions, GeneratedIsLowered, GeneratedHasNoFault, GeneratedHalts};
 
 use generated::{objects_are_spelled, words_are_operations};
+use jump_table::code_is_placed;
 use lift_blocks::lifted_is_one;
+use lower::{blocks_are_implemented, operations_are_implemented};
+use machine_state::start_is_good;
+use pvm_machine::effects_keep_targets;
 
 /// The decoder reads each word of a generated text as the operation meant.
 pub fn texts_are_operations()
@@ -57,4 +61,20 @@ pub fn generated_has_no_fault()
     generated_is_lifted();
     generated_is_lowered();
     lifted_is_one();
+}
+
+/// The program of a generated object halts, with a gas of one spent for each word, one for the entry's jump and one for the
+/// return.
+pub fn generated_halts()
+    ensures { GeneratedHalts }
+{
+    generated_is_lifted();
+    words_are_instructions();
+    generated_is_lowered();
+    lifted_is_one();
+    blocks_are_implemented();
+    operations_are_implemented();
+    code_is_placed();
+    effects_keep_targets();
+    start_is_good();
 }
