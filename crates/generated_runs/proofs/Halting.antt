@@ -1,12 +1,12 @@
 -- The program of a generated object halts, and spends all of its gas.
 use Rattle.std.proofs.Common.{◌≡◌, ℕ, ◌+◌, ◌<◌, ◌≤◌, [], length, Some, refl, ap, ◌∙◌, subst, arith}
-use Rattle.runs.specs.Runs.{MeteredRun}
-use Rattle.machine_state.specs.Ends.{Event, End, halt, no_host}
+use Rattle.machine_state.specs.Ends.{halt, no_host}
 use Rattle.machine_state.specs.Start.{IsImage, start_state}
 use Rattle.machine_state.specs.Laws.{StartIsGood}
 use Rattle.blob_codec.specs.Grammar.{Container, IsContainer}
 use Rattle.pvm_ops.specs.BlockList.{BlockList}
 use Rattle.pvm_machine.specs.Laws.{EffectIsPlain}
+use Rattle.symbols.specs.Wanted.{Given}
 use Rattle.jump_table.specs.Assembly.{code_of}
 use Rattle.jump_table.specs.Lengths.{AreLengths}
 use Rattle.jump_table.specs.Laws.{IsAssemblable, AreEnded, IsPlaced, CodeIsPlaced}
@@ -19,10 +19,10 @@ use Rattle.generated_runs.specs.Inputs.{given_of}
 use Rattle.generated_runs.specs.Lifted.{lifted}
 use Rattle.generated_runs.specs.Program.{program}
 use Rattle.generated_runs.specs.Runs.{SpendsAll}
-use Rattle.generated_runs.specs.Laws.{GeneratedIsLifted, WordsAreInstructions, GeneratedIsLowered, GeneratedHalts}
+use Rattle.generated_runs.specs.Laws.{GeneratedIsGiven, GeneratedIsLifted, WordsAreInstructions, GeneratedIsLowered, GeneratedHalts}
 use Rattle.generated_runs.proofs.Straight.{halts}
 
-module _ (is_lifted : GeneratedIsLifted) (words : WordsAreInstructions) (is_lowered : GeneratedIsLowered) (one : LiftedIsOne) (placeable : LoweredIsPlaceable)
+module _ (given_is : GeneratedIsGiven) (is_lifted : GeneratedIsLifted) (words : WordsAreInstructions) (is_lowered : GeneratedIsLowered) (one : LiftedIsOne) (placeable : LoweredIsPlaceable)
     (lower_each : AllAreLowered) (code_is_placed : CodeIsPlaced) (plain : EffectIsPlain) (start_is_good : StartIsGood) where
   -- the container that is linked has this program
   module _ (seed count stack : ℕ) (few : count ≤ 1000000) (c : Container) (linked : IsLinked (given_of seed count stack) c) where
@@ -56,14 +56,7 @@ module _ (is_lifted : GeneratedIsLifted) (words : WordsAreInstructions) (is_lowe
         (start_state (image_of (given_of seed count stack)) []) (start_is_good (image_of (given_of seed count stack)) [] image (omega arith)) refl in
         let is : machine_run no_host tt c 0 [] (count + 2) ≡ record { events = []; end = Some (halt run.last); left = 0; begun = count + 2 } =
         ap (λ (c : Container). machine_run no_host tt c 0 [] (count + 2)) container-is ∙ run.is in
-        record {
-          registers = run.last.registers;
-          memory = run.last.memory;
-          halts = ap (λ (r : MeteredRun Event End). r.end) is;
-          no_events = ap (λ (r : MeteredRun Event End). r.events) is;
-          none_left = ap (λ (r : MeteredRun Event End). r.left) is;
-          all_begun = ap (λ (r : MeteredRun Event End). r.begun) is;
-        }
+        record { registers = run.last.registers; memory = run.last.memory; is = is }
 
   pub generated-halts : GeneratedHalts
-  generated-halts seed count stack c few linked = spends-all seed count stack few c linked
+  generated-halts seed count stack c few linked = spends-all seed count stack few c (subst (λ (given : Given). IsLinked given c) (given_is seed count stack few) linked)

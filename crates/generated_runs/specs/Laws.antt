@@ -52,5 +52,5 @@ GeneratedHasNoFault = (seed count stack : ℕ) → count ≤ 1000000 → HasNoFa
 -- jump and one for the return.
 abbrev pub GeneratedHalts : Type 0
 GeneratedHalts =
-    (seed count stack : ℕ) (c : Container) → count ≤ 1000000 → IsLinked (given_of seed count stack) c
+    (seed count stack : ℕ) (c : Container) → count ≤ 1000000 → IsLinked (input_of (files_of seed count) (wanted_with stack)) c
     → SpendsAll (count + 2) (machine_run no_host tt c 0 [] (count + 2))

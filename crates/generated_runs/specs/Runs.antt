@@ -8,7 +8,4 @@ use Rattle.machine_state.specs.Memory.{Memory}
 pub record SpendsAll (gas : ℕ) (run : MeteredRun Event End) : Type 0 where
   pub registers : List ℕ
   pub memory : Memory
-  pub halts : run.end ≡ Some (Halt registers memory)
-  pub no_events : run.events ≡ []
-  pub none_left : run.left ≡ 0
-  pub all_begun : run.begun ≡ gas
+  pub is : run ≡ record { events = []; end = Some (Halt registers memory); left = 0; begun = gas }

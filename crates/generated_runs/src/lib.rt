@@ -63,11 +63,12 @@ pub fn generated_has_no_fault()
     lifted_is_one();
 }
 
-/// The program of a generated object halts, with a gas of one spent for each word, one for the entry's jump and one for the
-/// return.
+/// The program of a generated object halts with all of its gas spent: one for each word, one for the entry's jump and one for
+/// the return.
 pub fn generated_halts()
     ensures { GeneratedHalts }
 {
+    generated_is_given();
     generated_is_lifted();
     words_are_instructions();
     generated_is_lowered();
