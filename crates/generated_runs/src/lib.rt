@@ -1,10 +1,14 @@
 //! What the link makes of a generated object, and how its program runs.
 //!
 //! Each function below does nothing: its contract is a law. `specs/Operations.antt` says which operations a generated
-//! text has, and `specs/Inputs.antt` what the link of a generated object is given.
+//! text has, and `specs/Inputs.antt` what the link of a generated object is given. `specs/Lifted.antt` has its operations in
+//! code order, `specs/Program.antt` the program, and `specs/Runs.antt` how that runs.
 #![tactic(auto)]
 
 ghost use Rattle.generated_runs.specs.Laws.{TextsAreOperations, GeneratedIsGiven, NothingIsListed, GeneratedIsLifted, WordsAreInstructions, GeneratedIsLowered, GeneratedHasNoFault, GeneratedHalts};
+
+#[cfg(test)]
+mod tests;
 
 use generated::{objects_are_spelled, words_are_operations};
 use jump_table::code_is_placed;
