@@ -1,5 +1,5 @@
 -- The instructions of a generated program do one after another what its operations do, and the last one halts.
-use Rattle.std.proofs.Common.{◌≡◌, ℕ, zero, suc, ◌+◌, ◌<◌, List, [], ◌∷◌, ◌++◌, length, map, Bool, true, false, Some, None, refl, sym, ap, ◌∙◌, subst, arith}
+use Rattle.std.proofs.Common.{◌≡◌, ℕ, zero, suc, ◌+◌, ◌<◌, List, [], ◌∷◌, ◌++◌, length, map, drop, Bool, true, false, Some, None, refl, sym, ap, ◌∙◌, subst, arith}
 use Rattle.std.specs.Prelude.{pos, get_or, set, slice_get, slice_index}
 use Rattle.std.specs.List.{AllByRecursion}
 use Rattle.std.specs.Option.{option_map}
@@ -98,6 +98,12 @@ lowered-at (o ∷ ops) (suc at) op i each is one =
     let first = single (lower_op [] o) ((each 0 o refl).one []) in
     ap (λ (l : List Instr). slice_get (l ++ lowered (lower_op []) ops) (suc at)) first.all ∙ lowered-at ops at op i (λ k op is. each (suc k) op is) is one
 
+-- the elements from an index on
+from-there : {A : Type 0} (xs : List A) (at : ℕ) (x : A) → slice_get xs at ≡ Some x → drop at xs ≡ x ∷ drop (at + 1) xs
+from-there [] at x is = absurd cc
+from-there (y ∷ xs) zero x is = (let same : y ≡ x = cc in rw same refl)
+from-there (y ∷ xs) (suc at) x is = (let next : suc (at + 1) ≡ suc at + 1 = omega arith in from-there xs at x is ∙ ap (λ (k : ℕ). x ∷ drop k (y ∷ xs)) next)
+
 nothing-more : (o : Outcome ℕ State End) → and_then o (λ s. Next s) ≡ o
 nothing-more (Next s) = refl
 nothing-more (Jump target s) = refl
@@ -157,20 +163,40 @@ module _ (seed count : ℕ) (lengths : List ℕ) (words : WordsAreInstructions) 
 
   -- ---- the run
 
-  -- a run that halts, with no gas left
-  pub record Halts (gas : ℕ) (from : At ℕ Data) (begun : ℕ) : Type 0 where
+  -- A run that halts, with no gas left, as the operations from a number on do from a state.
+  pub record Halts (gas : ℕ) (from : At ℕ Data) (number : ℕ) (s : State) (begun : ℕ) : Type 0 where
     pub last : State
     pub is : run_with_gas turn gas from ≡ record { events = []; end = Some (halt last); left = 0; begun = begun }
+    pub computed : does (op_does []) (drop number (lifted seed count).ops) s ≡ Ends (halt last)
+
+  -- what an operation leaves, those after it take
+  earlier : (gas number begun : ℕ) (from : At ℕ Data) (op : Operation ℕ) (s after : State) → slice_get (lifted seed count).ops number ≡ Some op → op_does [] op s ≡ Next after
+      → Halts gas from (number + 1) after begun → Halts gas from number s begun
+  earlier gas number begun from op s after there goes rest = record {
+    last = rest.last;
+    is = rest.is;
+    computed =
+        ap (λ (ops : List (Operation ℕ)). does (op_does []) ops s) (from-there (lifted seed count).ops number op there)
+        ∙ ap (λ (o : Outcome ℕ State End). and_then o (does (op_does []) (drop (number + 1) (lifted seed count).ops))) goes
+        ∙ rest.computed;
+  }
 
   runs-on : (n number begun gas : ℕ) (from : At ℕ Data) (s : State) → number + n ≡ count → IsState s → register s 0 ≡ halt_address
-      → Reached turn gas from [] begun (suc n) (at-number number s) → Halts gas from (begun + n + 1)
+      → Reached turn gas from [] begun (suc n) (at-number number s) → Halts gas from number s (begun + n + 1)
   runs-on zero number begun gas from s all good address reached =
       let last : number ≡ count = omega (arith, all) in
       let there : slice_get (lifted seed count).ops count ≡ Some (Jalr Zero (R 0) (pos 0) 0) = slice_get-map lifted_of (operations seed count) count ∙ ap (option_map lifted_of) (last-operation seed count) in
       let stops : turn (at-number count s) ≡ Stops [] (halt s) = turn-is count (Jalr Zero (R 0) (pos 0) 0) s good there ∙ ap (turn_of (instr_position lengths list (count + 1))) (return-halts s address) in
       let reached_last : Reached turn gas from [] begun 1 (at-number count s) = subst (λ (number : ℕ). Reached turn gas from [] begun 1 (at-number number s)) last reached in
       let more : begun + 1 ≡ begun + 0 + 1 = omega arith in
-      record { last = s; is = reaches_end turn gas from begun 0 (at-number count s) [] (halt s) reached_last stops ∙ ap (λ (begun : ℕ). record { events = []; end = Some (halt s); left = 0; begun = begun }) more }
+      record {
+        last = s;
+        is = reaches_end turn gas from begun 0 (at-number count s) [] (halt s) reached_last stops ∙ ap (λ (begun : ℕ). record { events = []; end = Some (halt s); left = 0; begun = begun }) more;
+        computed =
+            ap (λ (k : ℕ). does (op_does []) (drop k (lifted seed count).ops) s) last
+            ∙ ap (λ (ops : List (Operation ℕ)). does (op_does []) ops s) (from-there (lifted seed count).ops count (Jalr Zero (R 0) (pos 0) 0) there)
+            ∙ ap (λ (o : Outcome ℕ State End). and_then o (does (op_does []) (drop (count + 1) (lifted seed count).ops))) (return-halts s address);
+      }
   runs-on (suc n) number begun gas from s all good address reached =
       let before : number < count = omega (arith, all) in
       let op : Operation ℕ = get_or (lifted seed count).ops number (Plain Trap) in
@@ -179,9 +205,10 @@ module _ (seed count : ℕ) (lengths : List ℕ) (words : WordsAreInstructions) 
       let goes_on : turn (at-number number s) ≡ Goes [] 0 0 (at-number (number + 1) goes.after) = turn-is number op s good there ∙ ap (turn_of (instr_position lengths list (number + 1))) goes.is in
       let good_after : IsState goes.after = subst (GoodOutcome IsState) goes.is ((lowers-at number op there).stays s good) in
       let more : begun + 1 + n + 1 ≡ begun + suc n + 1 = omega arith in
-      subst (Halts gas from) more
+      subst (Halts gas from number s) more
+      (earlier gas number (begun + 1 + n + 1) from op s goes.after there goes.is
       (runs-on n (number + 1) (begun + 1) gas from goes.after (omega (arith, all)) good_after (goes.same ∙ address)
-      (reaches_silently turn gas from begun (suc n) (at-number number s) (at-number (number + 1) goes.after) reached goes_on))
+      (reaches_silently turn gas from begun (suc n) (at-number number s) (at-number (number + 1) goes.after) reached goes_on)))
 
   -- the entry's jump leads to the first instruction
   jump-does : (from to target : ℕ) (s : State) → target ≡ sum_64 from (offset from to) → does_at [] code (record { instr = jump (offset from to); at = from }) s ≡ land (is_start code) (Jump target s)
@@ -200,10 +227,10 @@ module _ (seed count : ℕ) (lengths : List ℕ) (words : WordsAreInstructions) 
       ∙ rw starts refl
 
   -- from the entry the run spends a gas for the jump, for each word and for the return
-  pub halts : (s : State) → IsState s → register s 0 ≡ halt_address → Halts (count + 2) (record { at = 0; of = record { state = s; held = tt } }) (count + 2)
+  pub halts : (s : State) → IsState s → register s 0 ≡ halt_address → Halts (count + 2) (record { at = 0; of = record { state = s; held = tt } }) 0 s (count + 2)
   halts s good address =
       let from : At ℕ Data = record { at = 0; of = record { state = s; held = tt } } in
       let gas : count + 2 ≡ suc (suc count) = omega arith in
       let begun : 0 + 1 + count + 1 ≡ count + 2 = omega arith in
       let start : Reached turn (count + 2) from [] 0 (suc (suc count)) from = subst (λ (gas : ℕ). Reached turn (count + 2) from [] 0 gas from) gas (reaches_start turn (count + 2) from) in
-      subst (Halts (count + 2) from) begun (runs-on count 0 (0 + 1) (count + 2) from s (omega arith) good address (reaches_silently turn (count + 2) from 0 (suc count) from (at-number 0 s) start (enters s)))
+      subst (Halts (count + 2) from 0 s) begun (runs-on count 0 (0 + 1) (count + 2) from s (omega arith) good address (reaches_silently turn (count + 2) from 0 (suc count) from (at-number 0 s) start (enters s)))

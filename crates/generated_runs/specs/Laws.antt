@@ -1,16 +1,20 @@
 -- The laws of generated objects and their programs.
-use Rattle.std.specs.Prelude.{◌≡◌, ℕ, ◌+◌, ◌*◌, ◌≤◌, [], length, Ok, Some, slice_get}
+use Rattle.std.specs.Prelude.{◌≡◌, ℕ, ◌+◌, ◌*◌, ◌≤◌, List, [], length, Ok, Some, slice_get}
 use Rattle.rv_decode.specs.declared.ops.RvOp.{RvOp}
 use Rattle.rv_decode.specs.Operations.{operation}
 use Rattle.relocs.specs.Words.{word_at}
-use Rattle.machine_state.specs.Ends.{no_host}
+use Rattle.runs.specs.Machine.{Ends, does}
+use Rattle.machine_state.specs.Ends.{Halt, no_host}
+use Rattle.machine_state.specs.Memory.{Memory}
+use Rattle.machine_state.specs.Start.{start_state}
 use Rattle.blob_codec.specs.Grammar.{Container}
 use Rattle.lift_blocks.specs.Operations.{Operation}
 use Rattle.lift_blocks.specs.Listed.{IsLifted}
+use Rattle.lift_blocks.specs.Step.{op_does}
 use Rattle.lower.specs.Lowering.{lowered_blocks}
 use Rattle.link_core.specs.Faults.{input_of, listed_faults, HasNoFault}
 use Rattle.link_core.specs.Linked.{IsLinked}
-use Rattle.link_core.specs.Runs.{machine_run}
+use Rattle.link_core.specs.Runs.{image_of, machine_run}
 use Rattle.generated.specs.Objects.{text}
 use Rattle.generated_runs.specs.Inputs.{files_of, wanted_with, given_of}
 use Rattle.generated_runs.specs.Lifted.{lifted}
@@ -54,3 +58,10 @@ abbrev pub GeneratedHalts : Type 0
 GeneratedHalts =
     (seed count stack : ℕ) (c : Container) → count ≤ 1000000 → IsLinked (input_of (files_of seed count) (wanted_with stack)) c
     → SpendsAll (count + 2) (machine_run no_host tt c 0 [] (count + 2))
+
+-- It halts with the registers and the memory that its operations leave, one after another, from the standard start.
+abbrev pub GeneratedComputes : Type 0
+GeneratedComputes =
+    (seed count stack : ℕ) (c : Container) (registers : List ℕ) (memory : Memory) → count ≤ 1000000 → IsLinked (input_of (files_of seed count) (wanted_with stack)) c
+    → (machine_run no_host tt c 0 [] (count + 2)).end ≡ Some (Halt registers memory)
+    → does (op_does []) (lifted seed count).ops (start_state (image_of (given_of seed count stack)) []) ≡ Ends (Halt registers memory)

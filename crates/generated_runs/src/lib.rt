@@ -5,7 +5,7 @@
 //! code order, `specs/Program.antt` the program, and `specs/Runs.antt` how that runs.
 #![tactic(auto)]
 
-ghost use Rattle.generated_runs.specs.Laws.{TextsAreOperations, GeneratedIsGiven, NothingIsListed, GeneratedIsLifted, WordsAreInstructions, GeneratedIsLowered, GeneratedHasNoFault, GeneratedHalts};
+ghost use Rattle.generated_runs.specs.Laws.{TextsAreOperations, GeneratedIsGiven, NothingIsListed, GeneratedIsLifted, WordsAreInstructions, GeneratedIsLowered, GeneratedHasNoFault, GeneratedHalts, GeneratedComputes};
 
 #[cfg(test)]
 mod tests;
@@ -71,6 +71,22 @@ pub fn generated_has_no_fault()
 /// the return.
 pub fn generated_halts()
     ensures { GeneratedHalts }
+{
+    generated_is_given();
+    generated_is_lifted();
+    words_are_instructions();
+    generated_is_lowered();
+    lifted_is_one();
+    blocks_are_implemented();
+    operations_are_implemented();
+    code_is_placed();
+    effects_keep_targets();
+    start_is_good();
+}
+
+/// The program of a generated object halts with what its operations leave, one after another, from the standard start.
+pub fn generated_computes()
+    ensures { GeneratedComputes }
 {
     generated_is_given();
     generated_is_lifted();

@@ -1,6 +1,7 @@
 use crate::{
-    generated_halts, generated_has_no_fault, generated_is_given, generated_is_lifted,
-    generated_is_lowered, nothing_is_listed, texts_are_operations, words_are_instructions,
+    generated_computes, generated_halts, generated_has_no_fault, generated_is_given,
+    generated_is_lifted, generated_is_lowered, nothing_is_listed, texts_are_operations,
+    words_are_instructions,
 };
 
 #[test]
@@ -13,4 +14,5 @@ fn the_laws_can_be_called(_rt: HostRuntime) {
     generated_is_lowered();
     generated_has_no_fault();
     generated_halts();
+    generated_computes();
 }
