@@ -1,6 +1,6 @@
-mod Lengths
-mod Texts
+pub mod Lengths
+pub mod Texts
 mod Decoding
-mod Fields
+pub mod Fields
 mod Read
 mod Whole

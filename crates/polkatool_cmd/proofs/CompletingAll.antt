@@ -23,4 +23,4 @@ all_complete first one (Check blob) wanted status old new err err' known can non
 all_complete first one (Disassemble blob) wanted status old new err err' known can none c =
     text_complete first_disassemble_fault (λ d. disassembly d.program) blob can.container wanted status c.answer old new err err' known can.holds can.status_is none c.results c.reports
 all_complete first one (Generate asked) wanted status old new err err' known can none c =
-    generate_complete first one asked wanted status c.answer (record { text = old.out; puts = old.puts }) (record { text = new.out; puts = new.puts }) err err' can none.puts none.err_puts c.results.results c.reports
+    generate_complete asked wanted status c.answer (record { text = old.out; puts = old.puts }) (record { text = new.out; puts = new.puts }) err err' can none.puts none.err_puts c.results.results c.reports

@@ -1,10 +1,10 @@
 -- What the parts of a generation make of it.
-use Rattle.std.proofs.Common.{◌≡◌, ℕ, ◌-◌, List, [], ◌++◌, length, Option, Some, true, None, refl, sym, ap, ◌∙◌, append_assoc}
+use Rattle.std.proofs.Common.{◌≡◌, ◌⊎◌, ℕ, ◌-◌, ◌≤◌, List, [], ◌∷◌, ◌++◌, length, Option, Some, true, None, sym, ap, ◌∙◌, subst, append_assoc, inl, inr, arith}
 use Rattle.std.specs.Prelude.{not, Result, Ok, Err}
 use Rattle.std.proofs.lemmas.Bool.{not-false}
 use Rattle.faults.proofs.Absent.{none-left, none-broken}
 use Rattle.runs.specs.Runs.{MeteredRun}
-use Rattle.machine_state.specs.Ends.{Event, End, halt, no_host}
+use Rattle.machine_state.specs.Ends.{Event, End, Halt, Panic, Fault, Unanswered, halt, event, no_host}
 use Rattle.blob_check.specs.Faults.{IsChecked}
 use Rattle.blob_check.specs.Starts.{is_start}
 use Rattle.blob_check.specs.declared.checking.CheckFault.TheVariants.{NoFirst}
@@ -13,21 +13,24 @@ use Rattle.blob_codec.specs.Reading.{container_of}
 use Rattle.blob_codec.specs.declared.fault.BlobFault.{BlobFault}
 use Rattle.blob_codec.proofs.Containers.{container_again}
 use Rattle.pvm_machine.specs.Machine.{Machine}
-use Rattle.pvm_machine.specs.Ran.{run_of, RunsTo}
+use Rattle.pvm_machine.specs.Ran.{last_answer, run_of, RunsTo, IsRun}
 use Rattle.pvm_machine.specs.Started.{started}
-use Rattle.link_core.specs.Faults.{input_of, HasNoFault}
+use Rattle.pvm_machine.specs.declared.answers.Exit.{Exit}
+use Rattle.pvm_machine.specs.declared.answers.Exit.TheVariants as exits
+use Rattle.link_core.specs.Faults.{input_of}
 use Rattle.link_core.specs.Linked.{IsLinked}
 use Rattle.link_core.specs.Parts.{total}
 use Rattle.link_core.specs.Runs.{machine_run}
+use Rattle.generated_runs.specs.Runs.{SpendsAll}
+use Rattle.generated_runs.specs.Laws.{GeneratedHasNoFault, GeneratedHalts}
 use Rattle.polkatool_cmd.specs.Blobs.{SpellsContainer, WritesText}
-use Rattle.polkatool_cmd.specs.GenerateAnswers.{generated_files, generated_wanted, generated_gas, IsGeneratedRun, HasHalted, HasNotHalted, line_of, GenerateResultsIn}
+use Rattle.polkatool_cmd.specs.GenerateAnswers.{generated_files, generated_wanted, generated_gas, HasHalted, line_of, GenerateResultsIn}
 use Rattle.polkatool_cmd.specs.GenerateWords.{GenerateCommand}
 use Rattle.polkatool_cmd.specs.Lines.{generated_line}
+use Rattle.polkatool_cmd.specs.LinkWords.{default_stack}
 use Rattle.polkatool_cmd.specs.Snapshot.{Stream}
-use Rattle.polkatool_cmd.specs.Statuses.{status_of}
 use Rattle.polkatool_cmd.specs.declared.answer.Answer.{Answer}
 use Rattle.polkatool_cmd.specs.declared.answer.Answer.TheVariants as answers
-use Rattle.polkatool_cmd.specs.declared.status.Status.{Status}
 
 -- a line that is put together part by part
 pub parts-joined :
@@ -52,54 +55,71 @@ container-is_read bytes read fault spells exact is =
 pub checked-start : (p : Program) → IsChecked p → is_start p.code 0 ≡ true
 checked-start p none = not-false (is_start p.code 0) (none-broken (not (is_start p.code 0)) NoFirst (none-left _ _ none))
 
-module _ (asked : GenerateCommand) (container : Container)
-    (no_fault : HasNoFault (generated_files asked) generated_wanted) (is_linked : IsLinked (input_of (generated_files asked) generated_wanted) container)
-    (old new : Machine) (started_is : old ≡ started container 0 [] (generated_gas asked)) (events : List Event) where
-  is_run : IsGeneratedRun asked container (machine_run no_host tt container 0 [] (generated_gas asked))
-  is_run = record { no_fault = no_fault; is_linked = is_linked; run_is = refl }
+module _ (asked : GenerateCommand) (container : Container) (few : asked.count ≤ 1000000) (halts : GeneratedHalts)
+    (is_linked : IsLinked (input_of (generated_files asked) generated_wanted) container)
+    (old new : Machine) (started_is : old ≡ started container 0 [] (generated_gas asked)) where
+  run-is : SpendsAll (generated_gas asked) (machine_run no_host tt container 0 [] (generated_gas asked))
+  run-is = halts asked.seed asked.count default_stack container few is_linked
 
-  came : (end : Option End) → RunsTo old new events end → machine_run no_host tt container 0 [] (generated_gas asked) ≡ record { events = events; end = end; left = new.gas; begun = old.gas - new.gas }
-  came end results = ap run_of (sym started_is) ∙ results
+  came : (events : List Event) (end : Option End) → RunsTo old new events end → machine_run no_host tt container 0 [] (generated_gas asked) ≡ record { events = events; end = end; left = new.gas; begun = old.gas - new.gas }
+  came events end results = ap run_of (sym started_is) ∙ results
+
+  end-is : (events : List Event) (end : Option End) → RunsTo old new events end → end ≡ Some (Halt run-is.registers run-is.memory)
+  end-is events end results = ap (λ (r : MeteredRun Event End). r.end) (sym (came events end results) ∙ run-is.is)
+
+  -- it has no other end than a halt
+  pub no-other_end :
+      (exit : Exit) → (exit ≡ exits.Panic) ⊎ (((address : ℕ) × (exit ≡ exits.Fault address)) ⊎ ((exit ≡ exits.OutOfGas) ⊎ ((number : ℕ) × (exit ≡ exits.Host number)))) → IsRun old new (last_answer exit) → ⊥
+  no-other_end exit (inl is) run =
+      let halts : ◌≡◌ {A = Option End} (Some (Panic new.state.memory)) (Some (Halt run-is.registers run-is.memory)) = end-is [] _ (subst (λ exit. IsRun old new (last_answer exit)) is run) in
+      cc
+  no-other_end exit (inr (inl is)) run =
+      let halts : ◌≡◌ {A = Option End} (Some (Fault is.0 new.state.memory)) (Some (Halt run-is.registers run-is.memory)) = end-is [] _ (subst (λ exit. IsRun old new (last_answer exit)) is.1 run) in
+      cc
+  no-other_end exit (inr (inr (inl is))) run =
+      let halts : ◌≡◌ {A = Option End} None (Some (Halt run-is.registers run-is.memory)) = end-is [] _ (subst (λ exit. IsRun old new (last_answer exit)) is run) in
+      cc
+  no-other_end exit (inr (inr (inr is))) run =
+      let halts : ◌≡◌ {A = Option End} (Some (Unanswered is.0 new.state.memory)) (Some (Halt run-is.registers run-is.memory)) =
+      end-is (event is.0 new.state ∷ []) _ (subst (λ exit. IsRun old new (last_answer exit)) is.1 run) in
+      cc
 
   -- it halted
-  pub has-halted : RunsTo old new events (Some (halt new.state)) → HasHalted asked container (machine_run no_host tt container 0 [] (generated_gas asked)) new.state.registers
-  has-halted results = record { is_run = is_run; memory = new.state.memory; halts = ap (λ (r : MeteredRun Event End). r.end) (came _ results) }
+  pub has-halted : GeneratedHasNoFault → RunsTo old new [] (Some (halt new.state)) → HasHalted asked container new.state.registers
+  has-halted no_fault results = record {
+    no_fault = no_fault asked.seed asked.count default_stack few;
+    is_linked = is_linked;
+    memory = new.state.memory;
+    halts =
+        run-is.is
+        ∙ ap (λ (end : Option End). record { events = []; end = end; left = 0; begun = generated_gas asked }) (sym (end-is [] _ results));
+  }
 
   -- its line
   pub line-is :
-      (text : List ℕ) → RunsTo old new events (Some (halt new.state))
+      (text : List ℕ) → RunsTo old new [] (Some (halt new.state))
       → text ≡ generated_line asked.seed asked.count (length container.program.code.bytes) (generated_gas asked - new.gas) new.state.registers
-      → text ≡ line_of asked container (machine_run no_host tt container 0 [] (generated_gas asked)) new.state.registers
+      → text ≡ line_of asked container new.state.registers
   line-is text results is =
-      is
-      ∙ ap (λ left. generated_line asked.seed asked.count (length container.program.code.bytes) (generated_gas asked - left) new.state.registers)
-      (sym (ap (λ (r : MeteredRun Event End). r.left) (came _ results)))
-
-  -- it had another end
-  pub has-not_halted : (end : Option End) (status : Status) (out : Stream) → RunsTo old new events end → status_of end ≡ status → HasNotHalted asked status out out
-  has-not_halted end status out results is = record {
-    container = container;
-    run = machine_run no_host tt container 0 [] (generated_gas asked);
-    is_run = is_run;
-    ended = ap (λ (r : MeteredRun Event End). status_of r.end) (came end results) ∙ is;
-    others = refl;
-  }
+      let none_left : new.gas ≡ 0 = ap (λ (r : MeteredRun Event End). r.left) (sym (came [] _ results) ∙ run-is.is) in
+      let spent : generated_gas asked - new.gas ≡ generated_gas asked = omega (arith, none_left) in
+      is ∙ ap (λ (gas : ℕ). generated_line asked.seed asked.count (length container.program.code.bytes) gas new.state.registers) spent
 
 -- a run that halted, and whose line was put
 pub GenerateResultsIn-seen :
-    (asked : GenerateCommand) (container : Container) (run : MeteredRun Event End) (registers : List ℕ) (answer : Answer) (old new : Stream)
-    → HasHalted asked container run registers
-    → WritesText None (line_of asked container run registers) answer old new
+    (asked : GenerateCommand) (container : Container) (registers : List ℕ) (answer : Answer) (old new : Stream)
+    → HasHalted asked container registers
+    → WritesText None (line_of asked container registers) answer old new
     → GenerateResultsIn asked answer old new
-GenerateResultsIn-seen asked container run registers answers.Done old new halted seen =
-    record { container = container; run = run; registers = registers; has_halted = halted; seen = seen.1; puts = seen.2 }
-GenerateResultsIn-seen asked container run registers answers.Panicked old new halted seen = absurd seen
-GenerateResultsIn-seen asked container run registers answers.Faulted old new halted seen = absurd seen
-GenerateResultsIn-seen asked container run registers answers.OutOfGas old new halted seen = absurd seen
-GenerateResultsIn-seen asked container run registers answers.Unanswered old new halted seen = absurd seen
-GenerateResultsIn-seen asked container run registers answers.BadReply old new halted seen = absurd seen
-GenerateResultsIn-seen asked container run registers (answers.Refused fault) old new halted seen = let no = seen.0 in absurd cc
-GenerateResultsIn-seen asked container run registers answers.Usage old new halted seen = absurd seen
-GenerateResultsIn-seen asked container run registers answers.FileFault old new halted seen =
-    record { container = container; run = run; registers = registers; has_halted = halted; seen = seen.1; cause = seen.2 }
-GenerateResultsIn-seen asked container run registers answers.Memory old new halted seen = absurd seen
+GenerateResultsIn-seen asked container registers answers.Done old new halted seen =
+    record { container = container; registers = registers; has_halted = halted; seen = seen.1; puts = seen.2 }
+GenerateResultsIn-seen asked container registers answers.Panicked old new halted seen = absurd seen
+GenerateResultsIn-seen asked container registers answers.Faulted old new halted seen = absurd seen
+GenerateResultsIn-seen asked container registers answers.OutOfGas old new halted seen = absurd seen
+GenerateResultsIn-seen asked container registers answers.Unanswered old new halted seen = absurd seen
+GenerateResultsIn-seen asked container registers answers.BadReply old new halted seen = absurd seen
+GenerateResultsIn-seen asked container registers (answers.Refused fault) old new halted seen = let no = seen.0 in absurd cc
+GenerateResultsIn-seen asked container registers answers.Usage old new halted seen = absurd seen
+GenerateResultsIn-seen asked container registers answers.FileFault old new halted seen =
+    record { container = container; registers = registers; has_halted = halted; seen = seen.1; cause = seen.2 }
+GenerateResultsIn-seen asked container registers answers.Memory old new halted seen = absurd seen

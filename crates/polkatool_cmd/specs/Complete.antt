@@ -11,8 +11,6 @@ use Rattle.polkatool_cmd.specs.BlobFaults.{first_disassemble_fault}
 use Rattle.polkatool_cmd.specs.CheckFaults.{first_check_fault}
 use Rattle.polkatool_cmd.specs.Commands.{Command, Link, Run, Exec, Check, Disassemble, Generate}
 use Rattle.polkatool_cmd.specs.ExecWords.{ExecCommand}
-use Rattle.polkatool_cmd.specs.GenerateAnswers.{IsGeneratedRun}
-use Rattle.polkatool_cmd.specs.GenerateWords.{GenerateCommand}
 use Rattle.polkatool_cmd.specs.LinkAnswers.{HasObjects}
 use Rattle.polkatool_cmd.specs.LinkWords.{LinkCommand}
 use Rattle.polkatool_cmd.specs.RunWords.{RunCommand}
@@ -64,21 +62,14 @@ pub record CanDisassemble (seen : Option Files) (blob : List ℕ) (status : Stat
   pub holds : HoldsContainer first_disassemble_fault seen blob container
   pub status_is : status ≡ statuses.Done
 
--- the generated object has no fault, and the run of its program ends with this status
-pub record CanGenerate (asked : GenerateCommand) (status : Status) : Type 0 where
-  pub container : Container
-  pub run : MeteredRun Event End
-  pub is_run : IsGeneratedRun asked container run
-  pub status_is : status ≡ status_of run.end
-
--- What a command asks for is there and has no fault, and what it does ends with this status.
+-- What a command asks for is there and has no fault, and what it does ends with this status. A generation asks for nothing.
 abbrev pub Can : Option Files → Command → Status → Type 0
 Can seen (Link link) status = CanLink seen link status
 Can seen (Run run) status = CanRun seen run status
 Can seen (Exec exec) status = CanExec seen exec status
 Can seen (Check blob) status = CanCheck seen blob status
 Can seen (Disassemble blob) status = CanDisassemble seen blob status
-Can seen (Generate asked) status = CanGenerate asked status
+Can seen (Generate asked) status = status ≡ statuses.Done
 
 -- A command without a fault and without a failed call ends with the status of what it does, or an allocation failed.
 abbrev pub CommandsComplete : Type 0

@@ -1,9 +1,9 @@
 //! The command `gen`: an object of random words is made and linked, and its program is run.
 
-ghost use Rattle.std.specs.Prelude.{◌≡◌, ◌+◌, ◌*◌, ◌≤◌, ◌<◌, ◌^◌, ◌++◌, [], length, true, None, Ok, IfOk, MatchResult};
+ghost use Rattle.std.specs.Prelude.{◌≡◌, ◌+◌, ◌*◌, ◌≤◌, ◌<◌, ◌^◌, ◌++◌, [], length, true, None, Ok, IfOk};
 ghost use Rattle.arrayvec.specs.ArrayString.{array_string_len};
 ghost use Rattle.blob_check.specs.Starts.{is_start};
-ghost use Rattle.link_core.specs.Faults.{input_of, HasNoFault, HasFirstFault, Refuses};
+ghost use Rattle.link_core.specs.Faults.{input_of};
 ghost use Rattle.link_core.specs.Linked.{HoldsLinked, IsLinked};
 ghost use Rattle.pvm_machine.specs.Started.{started};
 ghost use Rattle.blob_codec.specs.Reading.{container_of};
@@ -21,7 +21,8 @@ use arrayvec::ArrayString;
 use blob_codec::Container;
 use disasm::push_hex;
 use generated::generated;
-use link_core::{Bundle, LinkFault, Linked, linked_is_checked};
+use generated_runs::{generated_halts, generated_has_no_fault};
+use link_core::{Bundle, LinkFault, Linked, first_fault_is_one, linked_is_checked};
 use outside::Sink;
 use pvm_machine::{Exit, Machine, StartFault};
 use std::alloc::{AllocError, Global};
@@ -33,25 +34,27 @@ pub(crate) fn generate<O: Sink>(alloc: Global, command: &GenerateCommand, out: &
         (record { text = O.bytes out.old; puts = O.faults out.old })
         (record { text = O.bytes out.new; puts = O.faults out.new }) }
 {
-    let linked = match link_generated(alloc, command) {
-        Ok(linked) => linked,
-        Err(LinkFault::Bad(fault)) => return Answer::Refused(fault),
-        Err(LinkFault::Memory) => return Answer::Memory,
+    let Ok(linked) = link_generated(alloc, command) else {
+        return Answer::Memory;
     };
     let container = linked_container(linked.container());
     run_generated(alloc, command, &container, out)
 }
 
-/// Makes an object and links it.
-fn link_generated(alloc: Global, command: &GenerateCommand) -> Result<Linked, LinkFault>
-    ensures { MatchResult result
-        (λ linked. HasNoFault (generated_files (generate_in command.now)) generated_wanted × HoldsLinked (input_of (generated_files (generate_in command.now)) generated_wanted) linked)
-        (Refuses (HasFirstFault (generated_files (generate_in command.now)) generated_wanted)) }
+/// Makes an object and links it. It has no fault.
+fn link_generated(alloc: Global, command: &GenerateCommand) -> Result<Linked, AllocError>
+    ensures { IfOk result (HoldsLinked (input_of (generated_files (generate_in command.now)) generated_wanted)) }
 {
+    generated_has_no_fault();
+    first_fault_is_one();
     let bundle = bundle_of(alloc, command)?;
     let mut wanted = Wanted::new(alloc, DEFAULT_STACK);
     wanted.entry(DEFAULT_ENTRY)?;
-    link_core::link(alloc, &bundle, &wanted)
+    match link_core::link(alloc, &bundle, &wanted) {
+        Ok(linked) => Ok(linked),
+        Err(LinkFault::Memory) => Err(AllocError),
+        Err(LinkFault::Bad(_)) => unreachable!(),
+    }
 }
 
 /// The bundle of the generated object alone.
@@ -75,21 +78,22 @@ fn linked_container(bytes: &[u8]) -> Container<'_>
     }
 }
 
-/// Runs the program of the generated object, and puts the line of its run.
+/// Runs the program of the generated object, which halts, and puts the line of its run.
 fn run_generated<O: Sink>(
     alloc: Global,
     command: &GenerateCommand,
     container: &Container<'_>,
     out: &mut O,
 ) -> Answer
-    requires no_fault { HasNoFault (generated_files (generate_in command.now)) generated_wanted }
-    requires is_linked { IsLinked (input_of (generated_files (generate_in command.now)) generated_wanted) container.now }
+    requires { IsLinked (input_of (generated_files (generate_in command.now)) generated_wanted) container.now }
     ensures { GenerateResultsIn (generate_in command.now) result
         (record { text = O.bytes out.old; puts = O.faults out.old })
         (record { text = O.bytes out.new; puts = O.faults out.new }) }
 {
     let gas = u64::from(command.count) + 2;
     linked_is_checked();
+    generated_has_no_fault();
+    generated_halts();
     let Ok(mut machine) = start(alloc, container, gas) else {
         return Answer::Memory;
     };
@@ -99,11 +103,8 @@ fn run_generated<O: Sink>(
             let line = line(command, code, gas - machine.gas(), machine.registers());
             put_line(line.as_bytes(), out)
         }
-        Exit::Panic => Answer::Panicked,
-        Exit::Fault(_) => Answer::Faulted,
-        Exit::OutOfGas => Answer::OutOfGas,
-        Exit::Host(_) => Answer::Unanswered,
         Exit::Memory => Answer::Memory,
+        Exit::Panic | Exit::Fault(_) | Exit::OutOfGas | Exit::Host(_) => unreachable!(),
     }
 }
 

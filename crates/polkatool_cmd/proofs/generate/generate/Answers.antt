@@ -3,9 +3,9 @@ use Rattle.link_core.specs.Linked.{IsLinked}
 use Rattle.polkatool_cmd.proofs.Execing.{one_container}
 use Rattle.polkatool_cmd.proofs.generate.generate.Goals as goal
 
-pub run_generated-requires-clause-is_linked : goal.run_generated-requires-clause-is_linked
-run_generated-requires-clause-is_linked g c =
-    let holds = c.in-Ok.ensures.1 in
+pub run_generated-requires : goal.run_generated-requires
+run_generated-requires g c =
+    let holds = c.in-Ok.ensures in
     subst (IsLinked _)
     (sym (one_container c.container.result.now c.in-Ok.linked.container c.linked_container-container.result holds.container c.container.ensures holds.spelled holds.is_linked.fits c.linked_container-container.ensures))
     holds.is_linked

@@ -1,0 +1,10 @@
+mod Texts
+mod Forms
+mod CodeWords
+mod Unlisted
+mod Offsets
+mod Lifted
+mod Program
+mod Size
+mod Straight
+mod Halting
