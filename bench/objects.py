@@ -51,7 +51,7 @@ from elf import (
     RET, STRTAB, SYMTAB, Sections, WEAK_FUNCTION, WEAK_UNDEFINED, WORD64, file_of, relocation, section, symbol, word_bytes,
 )
 from linked import (
-    ADD_IMM, ADD_IMM_8, ENTRY_JUMP, ENTRY_LINE, FALLTHROUGH, JUMP_IND, branch_ne_imm, code_line, data_line, jump_table,
+    ADD_IMM, ENTRY_JUMP, ENTRY_LINE, FALLTHROUGH, JUMP_IND, branch_ne_imm, code_line, data_line, jump_table,
     load_imm, load_imm_jump, number_of, offset_length,
 )
 
@@ -70,7 +70,7 @@ USES = (HI20, LO12_I, CALL_PLT, BRANCH)  # what the words after these have, in t
 USE_WORDS = {HI20: (LUI_A0,), LO12_I: (ADDI_A0,), CALL_PLT: (AUIPC_RA, JALR_RA), BRANCH: (BNE_A0,)}
 TABLE, FIRST_LABEL = 1, 2  # the symbols of the data and of the first word of the first text
 TABLE_ADDRESS = 0x10000
-TABLE_CODE = {HI20: load_imm(TABLE_ADDRESS), LO12_I: ADD_IMM_8}
+JOINED, ALONE = load_imm(TABLE_ADDRESS + 8), load_imm(TABLE_ADDRESS)  # HI20 before its LO12_I, and without one
 TEXT = word_bytes([ADDI] * 7 + [RET])
 
 # an object, the map that it is linked to, and pieces of the container: jump table and code, and the data
@@ -143,7 +143,7 @@ def code_of(uses, words_named, named, indexes, positions, lengths):
             found[text, at] = len(code)
             code += ADD_IMM
         at = 4 * PLAIN
-        for kind, number in uses_here:
+        for use, (kind, number) in enumerate(uses_here):
             at += 4 * len(USE_WORDS[kind])
             if kind == CALL_PLT:
                 by = positions.get(words_named[number], len(code)) - positions.get(("call", text, at), len(code))
@@ -153,8 +153,8 @@ def code_of(uses, words_named, named, indexes, positions, lengths):
             elif kind == BRANCH:
                 by = found[text, 0] - len(code)
                 code += branch_ne_imm(by, length_of(by))
-            else:
-                code += TABLE_CODE[kind]
+            elif kind == HI20:
+                code += JOINED if (LO12_I, TABLE) in uses_here[use + 1 : use + 2] else ALONE
         code += JUMP_IND
     return code, found
 
