@@ -44,6 +44,7 @@ import sys
 import tempfile
 
 sys.dont_write_bytecode = True
+from answers import DONE, NO_MEMORY, REFUSED
 from common import BAD_COMMAND_LINE, judged, parser, peak, program_in, seconds
 from elf import (
     ADD64, ADDI, ADDI_A0, ALLOC, ALLOC_AND_EXECINSTR, AUIPC_A0, AUIPC_RA, BNE_A0, BRANCH, CALL_PLT, GLOBAL_FUNCTION,
@@ -60,7 +61,6 @@ MEMORY_BAR = 4  # bytes of memory a byte of object, besides the object
 CORPUS_MEMORY_BAR = 48  # the same of the largest link of a corpus, whose object is small
 CORPUS_SPEED_BAR = 1  # time of that link over that of LLVM's linker
 TIMEOUT = 300  # seconds for one link of a corpus or of a hostile object
-DONE, REFUSED, NO_MEMORY = 0, 1, 9  # the statuses of a link, of a refusal and of want of memory
 MOST_SECTIONS = 0xFFFF
 MOST_RELOCATIONS = 1 << 24  # of an object, else it is refused as memory is
 MOST_NAME_BYTES = 1 << 28  # of the GLOBAL and WEAK symbols, else they are refused as memory is
