@@ -38,7 +38,7 @@ OBJECTS = {  # the words of the link of each example, and those of a run
     "five": ([b"five.o"], ECHO),
     "letters": ([b"letters.o"], ECHO),
     "lookup": ([*LOOKUP, b"lookup.o"], KEY),
-    "primes": ([*HEAP, b"primes.o"], [b"--arg", b"e8030000"]),
+    "primes": ([*HEAP, b"primes.o"], [b"--arg", b"1e00"]),
     "reverse": ([b"reverse.o"], ECHO),
     "sandbox": ([*SANDBOX, b"sandbox.o"], [b"--arg", b"1b"]),
     "weights": ([b"main.o", b"weighted.o"], ECHO),
