@@ -24,7 +24,7 @@ import sys
 import tempfile
 
 sys.dont_write_bytecode = True
-from answers import DONE, NO_MEMORY, fault_of, refusals, run_in
+from answers import DONE, NO_MEMORY, fault_of, files_in, refusals, run_in
 from common import BAD_COMMAND_LINE, ROOT, parser, program_in
 
 ALL = 2**63  # a number that no allocation has
@@ -71,26 +71,25 @@ class Refuser:
     def __init__(self, program, options, folder, preloaded):
         self.program, self.most, self.folder = program, options.seconds, folder
         self.environment = {**os.environ, "LD_PRELOAD": preloaded}
-        self.known, self.runs, self.wrong = refusals(), 0, 0
+        self.known, self.files, self.runs, self.wrong = refusals(), files_in(folder), 0, 0
 
     def end(self, words, first, last):
-        """The end of a run with the allocations of these numbers refused, and whether there were any."""
+        """The end of a run with the allocations of these numbers refused, and whether there were any. Files that it made are
+        removed after it."""
         reader, writer = os.pipe()
         numbers = {"REFUSED_FROM": str(first), "REFUSED_TO": str(last), "REFUSED_TOLD": str(writer)}
         options = {"env": {**self.environment, **numbers}, "pass_fds": (writer,)}
         found = run_in(self.program, words, self.folder, self.most, **options)
         os.close(writer)
+        for name in found.files.keys() - self.files.keys():
+            os.remove(os.path.join(os.fsencode(self.folder), name))
         with os.fdopen(reader, "rb") as file:
             return found, file.read() != b""
 
     def whole(self, words):
-        """The end of a run with nothing refused, and its files before it."""
+        """The end of a run with nothing refused."""
         end, _ = self.end(words, 0, 0)
-        text = fault_of(words, end, end.files, self.known)
-        if words[:1] == [b"link"] and end.status == DONE:
-            os.remove(os.path.join(os.fsencode(self.folder), b"out"))
-            text = None
-            end.files.pop(b"out")
+        text = fault_of(words, end, self.files, self.known)
         if text:
             sys.exit("%r with nothing refused: %s" % (words, text))
         return end
@@ -100,16 +99,14 @@ class Refuser:
         end, refused = self.end(words, first, last)
         self.runs += refused
         if refused:
-            text = fault_of(words, end, whole.files, self.known)
+            text = fault_of(words, end, self.files, self.known)
             if end.status != NO_MEMORY and not (end.status == whole.status == BAD_COMMAND_LINE):
-                text = text or "status %d" % end.status
+                text = text or "status %s" % end.status
             if not whole.out.startswith(end.out):
                 text = text or "another output: %r" % end.out[:300]
             if text:
                 self.wrong += 1
                 print("wrong: %r with allocation %d to %d refused: %s" % (words, first, last, text[:2000]), flush=True)
-                for name in set(end.files) - set(whole.files):
-                    os.remove(os.path.join(os.fsencode(self.folder), name))
         return refused
 
     def refuse_each(self, words):
