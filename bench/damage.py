@@ -173,7 +173,7 @@ class Maker:
         """A case by chance."""
         kind = chance.random()
         if kind < 0.65:
-            content = chance.choice(self.objects)
+            content = chance.choice(chance.choice((self.objects, list(self.files.values()))))
             steps = [damage_object] * 3 + [damage_bytes]
             return self.of_object("object", damaged(chance, content, steps))
         if kind < 0.85:
@@ -200,7 +200,7 @@ def objects_below(corpus):
 
 def damaged(chance, content, steps):
     """Bytes after one to four steps of damage."""
-    for _ in range(chance.randint(1, 4)):
+    for _ in range(chance.choice((1, 1, 1, 1, 2, 3, 4))):
         content = chance.choice(steps)(chance, content) if content else content
     return content
 
