@@ -47,23 +47,31 @@ def seconds(words, most=None):
     return time.perf_counter() - begin, done
 
 
-def peak(words, wanted):
-    """The greatest resident size, in bytes, of a run of these words that has to end with the wanted status.
+def usage(words, most=None):
+    """The status of a run of these words, negative for a signal, and what it used of the system. A run that takes more than
+    the most seconds of the processor that are given is ended by a signal.
 
     The kernel counts for a process what its parent held when it made it. So a shell, which holds little, makes the
     process in the background and ends, and the process then becomes a child of this one.
     """
     if ctypes.CDLL(None).prctl(PR_SET_CHILD_SUBREAPER, 1, 0, 0, 0) != 0:
-        sys.exit("the peak memory of a process can't be told here")
+        sys.exit("what a process uses can't be told here")
+    bound = "ulimit -t %d; " % most if most else ""
     for _ in range(20):
         quiet = dict.fromkeys(("stdin", "stdout", "stderr"), subprocess.DEVNULL)
-        shell = subprocess.Popen(["/bin/sh", "-c", '"$@" & exec true', "sh", *words], **quiet)
+        shell = subprocess.Popen(["/bin/sh", "-c", bound + '"$@" & exec true', "sh", *words], **quiet)
         shell.wait()
         try:
             _, status, used = os.wait4(-1, 0)
         except ChildProcessError:
             continue  # it ended before the shell did, and the shell took its numbers
-        if os.waitstatus_to_exitcode(status) != wanted:
-            sys.exit("%s ended with status %d, and not %d" % (words, os.waitstatus_to_exitcode(status), wanted))
-        return used.ru_maxrss * 1024
-    sys.exit("the peak memory of a process can't be told here")
+        return os.waitstatus_to_exitcode(status), used
+    sys.exit("what a process uses can't be told here")
+
+
+def peak(words, wanted):
+    """The greatest resident size, in bytes, of a run of these words that has to end with the wanted status."""
+    status, used = usage(words)
+    if status != wanted:
+        sys.exit("%s ended with status %d, and not %d" % (words, status, wanted))
+    return used.ru_maxrss * 1024

@@ -37,7 +37,7 @@ from elf import (
     LARGEST, LO12_I, LOCAL_OBJECT, LUI_A0, PROGBITS, RET, Sections, object_of, relocation, symbol, word_bytes,
 )
 from linked import (
-    ADD_IMM, ADD_IMM_8, ENTRY_JUMP, ENTRY_LINE, JUMP_IND, branch_ne_imm, code_line, data_line, jump_table, load_imm,
+    ADD_IMM, ENTRY_JUMP, ENTRY_LINE, JUMP_IND, branch_ne_imm, code_line, data_line, jump_table, load_imm,
     load_imm_jump, number_of, offset_length,
 )
 
@@ -82,7 +82,7 @@ def object_of_groups(first_two, relocations_at):
 def relocations():
     """The text of groups that load an address of data."""
     content = object_of_groups((LUI_A0, ADDI_A0), lambda at: relocation(at, HI20, DATA) + relocation(at + 4, LO12_I, DATA))
-    before = load_imm(DATA_ADDRESS) + ADD_IMM_8 + ADD_IMM * 3
+    before = load_imm(DATA_ADDRESS + 8 + 3)  # the constant that the first five words leave
     code = ENTRY_JUMP + (before + branch_ne_imm(-len(before))) * GROUPS + JUMP_IND
     return Text(RELOCATIONS, 6 * GROUPS + 1, content, MAP_OF_DATA, code)
 

@@ -1,8 +1,7 @@
 """What the words of `elf` are linked to, where the program has one entry and that is its first word."""
 ENTRY_LINE = b"entry 0 00000005 main\n"
 ENTRY_JUMP = bytes.fromhex("2805000000")
-ADD_IMM, JUMP_IND = bytes.fromhex("957701"), bytes.fromhex("3200")  # ADDI and RET
-ADD_IMM_8 = bytes.fromhex("957708")  # ADDI_A0 with the lower part 8
+ADD_IMM, JUMP_IND = bytes.fromhex("957701"), bytes.fromhex("3200")  # ADDI, where it goes on with no constant, and RET
 FALLTHROUGH = bytes.fromhex("01")  # before a place that is named, where the operation before it ends no block
 
 
@@ -22,7 +21,7 @@ def offset(by, length=None):
 
 
 def load_imm(value):
-    """LUI_A0 with this value."""
+    """Words that leave this number in a0 and read no register but x0 and a0: one constant."""
     return b"\x33\x07" + shortest(value)
 
 

@@ -3,7 +3,6 @@
 
     objects.py [PROGRAM] [--rounds 5] [--sections 10000] [--symbols 100000] [--relocations 100000]
     objects.py [PROGRAM] --corpus FOLDER [--rounds 5]
-    objects.py [PROGRAM] --hostile [--rounds 5]
 
 PROGRAM is crates/polkatool/out/polkatool of this repository if left out. It runs on Linux alone. The status is 0 where
 no value is over its bar and every run ended as it may, else 1.
@@ -27,11 +26,6 @@ variant is linked, and each object alone, and it is counted which answers there 
 place. A run that crashes, gives no answer in time, ends with another status than 0 and 1 or puts another line is told.
 Of the variants that were linked, that with the most bytes is then measured, as the objects above are, and beside it,
 where it is installed, LLVM's linker, `ld.lld-19 --no-relax`. Whole times are compared.
-
-With --hostile it makes objects of almost 2^24 bytes whose sections, relocations or names share as many bytes as they
-may, or whose relocations of code are many, or many at one word, and one as above of that size. Each is linked in turn, and
-its time is printed beside that of the last one. There is no bar, but each has to be answered in time and with its status:
-what bounds these times is said in docs/DECISIONS.md.
 """
 import collections
 import itertools
@@ -44,14 +38,15 @@ import sys
 import tempfile
 
 sys.dont_write_bytecode = True
+from answers import DONE, REFUSED
 from common import BAD_COMMAND_LINE, judged, parser, peak, program_in, seconds
 from elf import (
-    ADD64, ADDI, ADDI_A0, ALLOC, ALLOC_AND_EXECINSTR, AUIPC_A0, AUIPC_RA, BNE_A0, BRANCH, CALL_PLT, GLOBAL_FUNCTION,
-    GLOBAL_UNDEFINED, HI20, INFO_LINK, JALR_RA, LARGEST, LO12_I, LOCAL, LUI_A0, PCREL_HI20, PCREL_LO12_I, PROGBITS, RELA, RELAX,
-    RET, STRTAB, SYMTAB, Sections, WEAK_FUNCTION, WEAK_UNDEFINED, WORD64, file_of, relocation, section, symbol, word_bytes,
+    ADDI, ADDI_A0, ALLOC, ALLOC_AND_EXECINSTR, AUIPC_RA, BNE_A0, BRANCH, CALL_PLT, GLOBAL_FUNCTION, GLOBAL_UNDEFINED,
+    HI20, JALR_RA, LO12_I, LOCAL, LUI_A0, RELAX, RET, Sections, WEAK_FUNCTION, WEAK_UNDEFINED, WORD64, relocation,
+    section, symbol, word_bytes,
 )
 from linked import (
-    ADD_IMM, ADD_IMM_8, ENTRY_JUMP, ENTRY_LINE, FALLTHROUGH, JUMP_IND, branch_ne_imm, code_line, data_line, jump_table,
+    ADD_IMM, ENTRY_JUMP, ENTRY_LINE, FALLTHROUGH, JUMP_IND, branch_ne_imm, code_line, data_line, jump_table,
     load_imm, load_imm_jump, number_of, offset_length,
 )
 
@@ -59,18 +54,14 @@ RATIO_BAR = 1.5  # time a byte of the largest object over that of the smallest
 MEMORY_BAR = 4  # bytes of memory a byte of object, besides the object
 CORPUS_MEMORY_BAR = 48  # the same of the largest link of a corpus, whose object is small
 CORPUS_SPEED_BAR = 1  # time of that link over that of LLVM's linker
-TIMEOUT = 300  # seconds for one link of a corpus or of a hostile object
-DONE, REFUSED, NO_MEMORY = 0, 1, 9  # the statuses of a link, of a refusal and of want of memory
-MOST_SECTIONS = 0xFFFF
-MOST_RELOCATIONS = 1 << 24  # of an object, else it is refused as memory is
-MOST_NAME_BYTES = 1 << 28  # of the GLOBAL and WEAK symbols, else they are refused as memory is
+TIMEOUT = 300  # seconds for one link of a corpus
 
 PLAIN = 8  # the words at the start of a text, which symbols stand for
 USES = (HI20, LO12_I, CALL_PLT, BRANCH)  # what the words after these have, in turn
 USE_WORDS = {HI20: (LUI_A0,), LO12_I: (ADDI_A0,), CALL_PLT: (AUIPC_RA, JALR_RA), BRANCH: (BNE_A0,)}
 TABLE, FIRST_LABEL = 1, 2  # the symbols of the data and of the first word of the first text
 TABLE_ADDRESS = 0x10000
-TABLE_CODE = {HI20: load_imm(TABLE_ADDRESS), LO12_I: ADD_IMM_8}
+JOINED, ALONE = load_imm(TABLE_ADDRESS + 8), load_imm(TABLE_ADDRESS)  # HI20 before its LO12_I, and without one
 TEXT = word_bytes([ADDI] * 7 + [RET])
 
 # an object, the map that it is linked to, and pieces of the container: jump table and code, and the data
@@ -143,7 +134,7 @@ def code_of(uses, words_named, named, indexes, positions, lengths):
             found[text, at] = len(code)
             code += ADD_IMM
         at = 4 * PLAIN
-        for kind, number in uses_here:
+        for use, (kind, number) in enumerate(uses_here):
             at += 4 * len(USE_WORDS[kind])
             if kind == CALL_PLT:
                 by = positions.get(words_named[number], len(code)) - positions.get(("call", text, at), len(code))
@@ -153,8 +144,8 @@ def code_of(uses, words_named, named, indexes, positions, lengths):
             elif kind == BRANCH:
                 by = found[text, 0] - len(code)
                 code += branch_ne_imm(by, length_of(by))
-            else:
-                code += TABLE_CODE[kind]
+            elif kind == HI20:
+                code += JOINED if (LO12_I, TABLE) in uses_here[use + 1 : use + 2] else ALONE
         code += JUMP_IND
     return code, found
 
@@ -208,124 +199,6 @@ def object_of(sections, symbols, relocations):
     table = b"".join(relocation(8 * n, WORD64, number) for n, number in enumerate(addresses))
     made.add_relocated(".rodata", ALLOC, bytes(8 * of_data), table, 8)
     return Case(made.ended(entries, first, names), *answer_of_case(uses, words_named, addresses, 8 * of_data))
-
-
-def hostile_object(count, entries, symbols, names, section_names, shared, changed=1):
-    """An object of almost the largest size, with a section of code and one of data, so many RELA sections for the one of
-    these with the number `changed` that share these entries, the symbols and their names, and `main` behind these, and
-    further sections up to a count, each with the name at the start of the shared one."""
-    body = bytearray(64)
-
-    def put(content):
-        body.extend(bytes(-len(body) % 8))
-        body.extend(content)
-        return len(body) - len(content), len(content)
-
-    symbols, names = symbols + symbol(len(names), GLOBAL_FUNCTION, 1, 0), names + b"main\0"
-    rows = [(1, PROGBITS, ALLOC_AND_EXECINSTR, *put(TEXT), 0, 0, 4, 0), (1, PROGBITS, ALLOC, *put(bytes(8)), 0, 0, 8, 0)]
-    rows += [(1, SYMTAB, 0, *put(symbols), 4, 1, 8, 24), (1, STRTAB, 0, *put(names), 0, 0, 1, 0)]
-    rows += [(1, RELA, INFO_LINK, *put(entries), 3, changed, 8, 24)] * shared
-    rows += [(1, PROGBITS, ALLOC_AND_EXECINSTR, 0, 0, 0, 0, 4, 0)] * (count - len(rows) - 2)
-    room = LARGEST - len(body) - 64 * (len(rows) + 2) - 16
-    text = b"\0" + b"n" * (room - 2 if section_names else 8) + b"\0"
-    rows.append((1, STRTAB, 0, *put(text + bytes(room - len(text))), 0, 0, 1, 0))
-    return file_of(body, [section(0, 0, 0, 0, 0, 0, 0, 0, 0), *(section(*row) for row in rows)], len(rows))
-
-
-def hostile_code(text, entries, label):
-    """An object with these words and relocations, which may name the data in section 3, a word at an offset, or `main`."""
-    sections = Sections(4)
-    sections.add_relocated(".text", ALLOC_AND_EXECINSTR, word_bytes(text), entries)
-    sections.add(".rodata", PROGBITS, ALLOC, bytes(16), align=8)
-    symbols = symbol(0, 0, 0, 0) + symbol(1, LOCAL, 3, 8) + symbol(7, LOCAL, 1, label) + symbol(13, GLOBAL_FUNCTION, 1, 0)
-    return sections.ended(symbols, 3, b"\0table\0label\0main\0")
-
-
-def jal(by):
-    """The word of a jump forward that keeps no link, which leads less than 2^20 bytes on."""
-    return (by >> 1 & 0x3FF) << 21 | (by >> 11 & 1) << 20 | (by >> 12 & 0xFF) << 12 | 0x6F
-
-
-def hostile_codes():
-    """What each object is whose relocations of code are many, or many at one word, the status of its link, and its bytes."""
-    most = (LARGEST - 4096) // 28
-    backwards = b"".join(relocation(4 * n, HI20, 1) for n in range(most - 1, -1, -1))
-    yield "relocations from the last to the first", DONE, hostile_code([LUI_A0] * most + [RET], backwards, 0)
-    half = (LARGEST - 4096) // 48
-    entries = relocation(0, PCREL_LO12_I, 2) * half + relocation(4, PCREL_HI20, 1) * half
-    yield "many lower parts of a word with many", REFUSED, hostile_code([ADDI_A0, AUIPC_A0, RET], entries, 4)
-    jumps = (1 << 18) - 4
-    most = (LARGEST - 4 * jumps - 4096) // 24
-    text = [jal(4 * (jumps + 1 - n)) for n in range(jumps)] + [AUIPC_RA, JALR_RA, RET]
-    yield "many jumps behind a word with many", REFUSED, hostile_code(text, relocation(4 * jumps, PCREL_HI20, 1) * most, 0)
-
-
-def names_that_share(words, length):
-    """The names of symbols, words of this length that end in different ways, and where a name begins at each byte."""
-    texts = [b"a" * (length - 8) + b"%08d" % word for word in range(words)]
-    starts = [1 + word * (length + 1) + at for word in range(words) for at in range(length - 8)]
-    return b"\0" + b"".join(text + b"\0" for text in texts), starts
-
-
-def hostile_objects():
-    """What each hostile object is, the status of its link, and its bytes."""
-    null = symbol(0, 0, 0, 0)
-    relax = relocation(0, RELAX, 0)
-    room = LARGEST - 4096
-    each = MOST_RELOCATIONS // 32
-    yield "sections of one name", DONE, hostile_object(MOST_SECTIONS, b"", null, b"\0", True, 0)
-    yield "relocations shared, as many as may be", DONE, hostile_object(0, relax * each, null, b"\0", False, 32)
-    yield "relocations shared, too many", NO_MEMORY, hostile_object(0, relax * each, null, b"\0", False, 60000)
-    one = b"\0" + b"n" * (room // 3) + b"\0"
-    count = room // 3 // 24
-    few = MOST_NAME_BYTES // len(one) - 1
-    absent = symbol(1, GLOBAL_UNDEFINED, 0, 0)
-    yield "symbols of one name, too many", NO_MEMORY, hostile_object(0, b"", null + absent * count, one, False, 0)
-    yield "symbols of one name, as many as may be", DONE, hostile_object(0, b"", null + absent * few, one, False, 0)
-    for what, words, length in ("names that share bytes, long", 1, 23000), ("names that share bytes, many", 228, 1520):
-        names, starts = names_that_share(words, length)
-        entries = b"".join(symbol(at, GLOBAL_FUNCTION, 1, 0) for at in starts)
-        yield what, DONE, hostile_object(0, b"", null + entries, names, False, 0)
-    yield "relocations of a number, shared", DONE, hostile_object(0, relocation(0, ADD64, 1) * each, null, b"\0", False, 32, 2)
-    yield "relocations of a word, shared", REFUSED, hostile_object(0, relocation(0, HI20, 1) * each, null, b"\0", False, 32)
-    yield from hostile_codes()
-
-
-def timed_hostile(program, source, folder, status):
-    """The seconds of one link, which has to end with the status, or TIMEOUT where it takes longer."""
-    try:
-        return timed(program, ["link", "-o", os.path.join(folder, "out.pvm"), source], status, None, TIMEOUT)
-    except subprocess.TimeoutExpired:
-        return TIMEOUT
-
-
-def measure_hostile(program, options, folder):
-    """Prints the time of each hostile object beside that of a harmless one of the same size; whether each was answered."""
-    part = next(part for part in range(100, 0, -1) if len(object_of(200 * part, 2000 * part, 2000 * part).object) <= LARGEST)
-    harmless = object_of(200 * part, 2000 * part, 2000 * part).object
-    cases = [*hostile_objects(), ("none of these", DONE, harmless)]
-    took = [[] for _ in cases]
-    starts = []
-    sources = []
-    for number, (_, _, content) in enumerate(cases):
-        sources.append(os.path.join(folder, "%d.o" % number))
-        with open(sources[-1], "wb") as file:
-            file.write(content)
-    for _ in range(options.rounds):
-        starts.append(started(program))
-        for number, (_, status, _) in enumerate(cases):
-            if TIMEOUT not in took[number]:
-                took[number].append(timed_hostile(program, sources[number], folder, status))
-    start = min(starts)
-    usual = (min(took[-1]) - start) / len(harmless)
-    for number, (what, status, content) in enumerate(cases):
-        a_byte = (min(took[number]) - start) / len(content)
-        if TIMEOUT in took[number]:
-            print("%-40s %9d bytes  no answer in %d s" % (what, len(content), TIMEOUT))
-        else:
-            text = "%-40s %9d bytes  status %d  %9.2f ns a byte  %8.2f times the last"
-            print(text % (what, len(content), status, a_byte * 1e9, a_byte / usual))
-    return not any(TIMEOUT in times for times in took)
 
 
 def timed(program, words, status, case, most=None):
@@ -480,14 +353,11 @@ def main():
     words.add_argument("--symbols", type=int, default=100000)
     words.add_argument("--relocations", type=int, default=100000)
     words.add_argument("--corpus")
-    words.add_argument("--hostile", action="store_true")
     options = words.parse_args()
     program = program_in(options)
     with tempfile.TemporaryDirectory() as folder:
         if options.corpus:
             return 0 if measure_corpus(program, options, folder) else 1
-        if options.hostile:
-            return 0 if measure_hostile(program, options, folder) else 1
         found = measure(program, options, folder)
     smallest, largest = found[0][0], found[-1][0]
     if smallest <= 0:
