@@ -1,4 +1,4 @@
-"""The ends of a command that README.md and docs/faults.md state, and whether a run has one of them and left its files so."""
+"""The ends of a command that README.md and docs/faults.md state, and whether a run has one and left its files so."""
 import collections
 import os
 import re
@@ -61,7 +61,8 @@ def files_in(folder):
 def run_in(program, words, folder, most, **options):
     """The end of a run in a folder, which is ended after so many seconds."""
     try:
-        done = subprocess.run([program, *words], cwd=folder, capture_output=True, stdin=subprocess.DEVNULL, timeout=most, **options)
+        options = {"capture_output": True, "stdin": subprocess.DEVNULL, **options}
+        done = subprocess.run([program, *words], cwd=folder, timeout=most, **options)
     except subprocess.TimeoutExpired:
         return End(None, b"", b"", files_in(folder))
     return End(done.returncode, done.stdout, done.stderr, files_in(folder))
@@ -78,8 +79,8 @@ def output_of(words):
 
 
 def fault_of(words, end, before, known):
-    """What of the end of a run isn't as it is stated, None where all is: the words, the end, the files before it and the
-    refusals that are known."""
+    """What of the end of a run isn't as it is stated, None where all is. Given are the words, the end, the files before
+    it, and the refusals that are known."""
     status, out, err, files = end
     command = os.fsdecode(words[0]) if words else ""
     if status is None:

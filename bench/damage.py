@@ -4,20 +4,22 @@
     damage.py [PROGRAM] [--minutes 0] [--seed 0] [--corpus FOLDER] [--seconds 10] [--megabytes 2048] [--keep FOLDER]
 
 PROGRAM is crates/polkatool/out/polkatool of this repository if left out. The files are those of the examples, and the
-objects below the folder of --corpus. The fixed cases come first: each field of two objects at its extremes, two objects,
-a container and a file of replies with each of their bytes changed, or cut there, and values at their extremes for each
-option. Then, for so many minutes, cases are made at random from the seed: bits flipped, ranges overwritten, cut, moved or
-swapped, sections swapped, fields at extremes, words left out, doubled, swapped and replaced.
+objects below the folder of --corpus. The fixed cases come first: each field of two objects at its extremes, two
+objects, a container and a file of replies with each of their bytes changed, or cut there, and values at their extremes
+for each option. Then, for so many minutes, cases are made at random from the seed: bits flipped, ranges overwritten,
+cut, moved or swapped, sections swapped, fields at extremes, words left out, doubled, swapped and replaced.
 
-An end is as stated if it comes within the seconds and the megabytes, with a status and a line that README.md has for the
-command, with a refusal that docs/faults.md has, with the form of output that the status has, and if no file has changed
-but the output of a link that is done. In addition, a container that was linked is checked, disassembled and run, and
-`exec` has to print what this run prints. `check`, `disassemble` and `run` have to report the same fault of a container.
+An end is as stated if it comes within the seconds and the megabytes, with a status and a line that README.md has for
+the command, with a refusal that docs/faults.md has, with the form of output that the status has, and if no file has
+changed but the output of a link that is done. In addition, a container that was linked is checked, disassembled and
+run, and `exec` has to print what this run prints. `check`, `disassemble` and `run` have to report the same fault of a
+container.
 
 --megabytes bounds the address space: a run that needs more ends with status 9, which is told too. It has no effect on a
 program that can't begin in so little, as one that was built with a sanitizer.
 
-Each wrong end is told, with the case's number, and its files are kept in --keep. The status is 0 if there is none, else 1.
+Each wrong end is told, with the case's number, and its files are kept in --keep. The status is 0 if there is none, else
+1.
 """
 import os
 import random
@@ -33,8 +35,8 @@ from answers import DONE, NO_MEMORY, REFUSED, STATUSES, fault_of, files_in, refu
 from common import BAD_COMMAND_LINE, ROOT, parser, program_in
 
 GAS = b"100000"
-EXAMPLES = ("five/five.o", "letters/letters.o", "lookup/lookup.o", "digest/digest.o", "primes/primes.o", "reverse/reverse.o",
-            "sandbox/sandbox.o", "weights/main.o", "weights/weighted.o")
+EXAMPLES = ("five/five.o", "letters/letters.o", "lookup/lookup.o", "digest/digest.o", "primes/primes.o")
+EXAMPLES += ("reverse/reverse.o", "sandbox/sandbox.o", "weights/main.o", "weights/weighted.o")
 IMPORTED = ("fetch=100", "store=101", "more_heap=sbrk", "machine=8", "invoke=12", "expunge=13")
 IMPORTS = [word for name in IMPORTED for word in (b"-i", name.encode())]
 SHT_SYMTAB, SHT_RELA = 2, 4
@@ -230,7 +232,7 @@ def damage_bytes(chance, content):
 
 
 def damage_object(chance, content):
-    """An object with a field at an extreme, or with two headers of sections swapped, or one that leads to another's bytes."""
+    """An object with a field at an extreme, or two headers of sections swapped, or one that leads to another's bytes."""
     headers = sections_of(content)
     kind = chance.randrange(6)
     if kind < 4 or len(headers) < 2:

@@ -3,18 +3,18 @@
 
     hostile.py [PROGRAM] [--rounds 1] [--only TEXT] [--most 600]
 
-PROGRAM is crates/polkatool/out/polkatool of this repository if left out. It runs on Linux alone. The files have at most 2^24
-bytes together: as many sections, symbols, names, relocations or blocks as there is room for; sections, relocations and names
-that share their bytes; names and numbers that a table finds only one by one; long names; code that is one constant. Those in
-which each offset that gets longer makes another one longer are in chains.py.
+PROGRAM is crates/polkatool/out/polkatool of this repository if left out. It runs on Linux alone. The files have at most
+2^24 bytes together: as many sections, symbols, names, relocations or blocks as there is room for; sections, relocations
+and names that share their bytes; names and numbers that a table finds only one by one; long names; code that is one
+constant. Those in which each offset that gets longer makes another one longer are in chains.py.
 
-Beside them is an object of 20,000 sections, 200,000 symbols and 200,000 relocations, as objects.py makes it. For each the
-time, which is that of the processor, the instructions, where `perf` counts them, and the peak memory are printed, and the
-time over that of the usual object. The bars: a link takes at most 16 times as long as that of the usual object, and at most
-1 GiB of memory. A link that takes more than --most seconds of the processor is ended.
+Beside them is an object of 20,000 sections, 200,000 symbols and 200,000 relocations, as objects.py makes it. For each
+the time, which is that of the processor, the instructions, where `perf` counts them, and the peak memory are printed,
+and the time over that of the usual object. The bars: a link takes at most 16 times as long as that of the usual object,
+and at most 1 GiB of memory. A link that takes more than --most seconds of the processor is ended.
 
-The status is 0 if nothing is over its bar and each link ended with its status, else 1. --only takes the cases whose names
-have the text.
+The status is 0 if nothing is over its bar and each link ended with its status, else 1. --only takes the cases whose
+names have the text.
 """
 import os
 import shutil
@@ -26,9 +26,10 @@ sys.dont_write_bytecode = True
 from answers import DONE, NO_MEMORY, REFUSED
 from common import judged, parser, program_in, usage
 from elf import (
-    ADD64, ADDI, ADDI_A0, ALLOC, ALLOC_AND_EXECINSTR, ALLOC_AND_WRITE, AUIPC_A0, AUIPC_RA, GLOBAL_FUNCTION, GLOBAL_UNDEFINED,
-    HI20, INFO_LINK, JALR_RA, LARGEST, LO12_I, LOCAL, LUI_A0, PCREL_HI20, PCREL_LO12_I, PROGBITS, RELA, RELAX, RET, STRTAB,
-    SYMTAB, Sections, WEAK_FUNCTION, WEAK_UNDEFINED, file_of, object_of, relocation, section, symbol, word_bytes,
+    ABS, ADD64, ADDI, ADDI_A0, ALLOC, ALLOC_AND_EXECINSTR, ALLOC_AND_WRITE, AUIPC_A0, AUIPC_RA, GLOBAL_FUNCTION,
+    GLOBAL_UNDEFINED, GOT_HI20, HI20, INFO_LINK, JALR_RA, LARGEST, LOCAL, LUI_A0, PCREL_HI20, PCREL_LO12_I, PROGBITS,
+    RELA, RELAX, RET, STRTAB, SYMTAB, Sections, WEAK_FUNCTION, WEAK_UNDEFINED, file_of, object_of, relocation, section,
+    symbol, word_bytes,
 )
 from objects import TEXT, object_of as usual_object_of
 
@@ -38,14 +39,12 @@ MOST_SECTIONS = 0xFFFF
 MOST_RELOCATIONS = 1 << 24  # of an object, else it is refused as memory is
 MOST_NAME_BYTES = 1 << 28  # of the GLOBAL and WEAK symbols, else they are refused as memory is
 MOST_CODE = 1 << 24  # bytes of the code of a link
-ABSOLUTE = 0xFFF1  # the index of the section of a symbol that is a number
-GOT_HI20 = 20
 
 
 def hostile_object(count, entries, symbols, names, section_names, shared, changed=1):
-    """An object of almost the largest size, with a section of code and one of data, so many RELA sections for the one of
-    these with the number `changed` that share these entries, the symbols and their names, and `main` behind these, and
-    further sections up to a count, each with the name at the start of the shared one."""
+    """An object of almost the largest size, with a section of code and one of data, so many RELA sections for the one
+    of these with the number `changed` that share these entries, the symbols and their names, and `main` behind these,
+    and further sections up to a count, each with the name at the start of the shared one."""
     body = bytearray(64)
 
     def put(content):
@@ -65,7 +64,7 @@ def hostile_object(count, entries, symbols, names, section_names, shared, change
 
 
 def hostile_code(text, entries, label):
-    """An object with these words and relocations, which may name the data in section 3, a word at an offset, or `main`."""
+    """An object with these words and relocations, which may name data in section 3, a word at an offset, or `main`."""
     sections = Sections(4)
     sections.add_relocated(".text", ALLOC_AND_EXECINSTR, word_bytes(text), entries)
     sections.add(".rodata", PROGBITS, ALLOC, bytes(16), align=8)
@@ -79,7 +78,7 @@ def jal(by):
 
 
 def hostile_codes():
-    """What each object is whose relocations of code are many, or many at one word, the status of its link, and its bytes."""
+    """What each object is whose relocations of code are many, or many at one word, its link's status, and its bytes."""
     most = (LARGEST - 4096) // 28
     backwards = b"".join(relocation(4 * n, HI20, 1) for n in range(most - 1, -1, -1))
     yield "relocations from the last to the first", DONE, hostile_code([LUI_A0] * most + [RET], backwards, 0)
@@ -123,7 +122,7 @@ def hostile_objects():
     yield from hostile_codes()
 
 
-def symbols_and_names(count, info, index, first=1):
+def symbols_and_names(count, info, index):
     """Symbols with names of their own, after the null symbol, and their names."""
     symbols, names = [symbol(0, 0, 0, 0)], bytearray(b"\0")
     for number in range(count):
@@ -133,8 +132,8 @@ def symbols_and_names(count, info, index, first=1):
 
 
 def object_of_symbols(symbols, names, tables=(), first=1):
-    """An object of two words of code and eight bytes of data, with these symbols and `main` behind them, and with these
-    relocations of the data. The first of the symbols that isn't LOCAL is given."""
+    """An object of two words of code and eight bytes of data, with these relocations of the data, and with these symbols
+    and `main` behind them, of which those before the first given one are LOCAL."""
     sections = Sections(4)
     sections.add(".text", PROGBITS, ALLOC_AND_EXECINSTR, word_bytes([ADDI, RET]), align=4)
     sections.add_relocated(".data", ALLOC_AND_WRITE, bytes(8), b"".join(tables), 8)
@@ -154,7 +153,7 @@ def folded(left, right):
 
 
 def colliding_numbers(groups):
-    """As many numbers as a table of so many groups holds at most, all of which it looks for first in an eighth of them."""
+    """As many numbers as a table of so many groups holds, all of which it looks for first in an eighth of them."""
     factor = HASH_FACTOR ^ 16
     state = folded(HASH_START ^ NUMBER_VARIANT, factor)
     found, number = [], 0
@@ -168,7 +167,7 @@ def colliding_numbers(groups):
 
 def numbers(values, kind):
     """An object whose data have a relocation of this type for each of these numbers, all at one place."""
-    symbols = b"".join([symbol(0, 0, 0, 0), *(symbol(0, LOCAL, ABSOLUTE, value) for value in values)])
+    symbols = b"".join([symbol(0, 0, 0, 0), *(symbol(0, LOCAL, ABS, value) for value in values)])
     tables = [relocation(0, kind, 1 + number) for number in range(len(values))]
     return object_of_symbols(symbols, b"\0", tables, 1 + len(values))
 
@@ -191,7 +190,7 @@ def overlapping(count, flags, content):
 
 
 def shared_relocations(rows, sections, info):
-    """A small object with so many RELA sections of its data, which share so many entries. Its symbol `main` has this info."""
+    """A small object with so many RELA sections of its data, which share so many entries. Its `main` has this info."""
     made = Sections(5 + sections)
     made.add(".text", PROGBITS, ALLOC_AND_EXECINSTR, word_bytes([ADDI, RET]), align=4)
     made.add_relocated(".data", ALLOC_AND_WRITE, bytes(8), relocation(0, ADD64, 1) * rows, 8)
@@ -217,8 +216,9 @@ def cases():
     yield "sections that overlap, of code", DONE, [overlapping(65000, ALLOC_AND_EXECINSTR, word_bytes([RET] * 64))], []
     yield "sections that overlap, of data", DONE, [overlapping(65000, ALLOC, bytes(256))], []
     count = MOST_CODE // 4 - 300
-    for what, text in ("one constant", [LUI_A0] * count), ("blocks of one word", [RET] * count), ("one block", [ADDI] * count):
-        yield "code that is " + what, DONE, [object_of([*text, RET])], []
+    texts = ("one constant", [LUI_A0]), ("blocks of one word", [RET]), ("one block", [ADDI])
+    for what, text in texts:
+        yield "code that is " + what, DONE, [object_of([*(text * count), RET])], []
     colliding = colliding_numbers(32768)
     yield "numbers, as many", DONE, [numbers([number << 40 for number in range(len(colliding))], ADD64)], []
     yield "numbers that a table finds one by one", DONE, [numbers(colliding, ADD64)], []
@@ -240,7 +240,7 @@ def instructions(words):
 
 
 def measured(program, options, folder, status, objects, further):
-    """The least seconds of the processor, the instructions and the peak memory of a link; None where it ends otherwise."""
+    """The least seconds of the processor, the instructions and the peak memory of a link, or None with another end."""
     sources = []
     for number, content in enumerate(objects):
         sources.append(os.path.join(folder, "%d.o" % number))

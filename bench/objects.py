@@ -43,7 +43,7 @@ from common import BAD_COMMAND_LINE, judged, parser, peak, program_in, seconds
 from elf import (
     ADDI, ADDI_A0, ALLOC, ALLOC_AND_EXECINSTR, AUIPC_RA, BNE_A0, BRANCH, CALL_PLT, GLOBAL_FUNCTION, GLOBAL_UNDEFINED,
     HI20, JALR_RA, LO12_I, LOCAL, LUI_A0, RELAX, RET, Sections, WEAK_FUNCTION, WEAK_UNDEFINED, WORD64, relocation,
-    section, symbol, word_bytes,
+    symbol, word_bytes,
 )
 from linked import (
     ADD_IMM, ENTRY_JUMP, ENTRY_LINE, FALLTHROUGH, JUMP_IND, branch_ne_imm, code_line, data_line, jump_table,
